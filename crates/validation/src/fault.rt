@@ -43,8 +43,7 @@ impl ValidatorFault {
             ValidatorFault::Keys(keys) => keys as u64,
             ValidatorFault::Places(places) => places as u64,
             ValidatorFault::Grain(grain) => grain as u64,
-            ValidatorFault::KeyOutside(key) => key as u64,
-            ValidatorFault::StaleStamp(key) => key as u64,
+            ValidatorFault::KeyOutside(key) | ValidatorFault::StaleStamp(key) => key as u64,
         }
     }
 }

@@ -8,6 +8,8 @@ pub enum StoreFault {
     Keys(u16),
     /// The number of cells is outside its limits.
     Cells(usize),
+    /// The number of heads is not that of the keys.
+    Heads(usize),
     /// The store has no such key.
     KeyOutside(u16),
     /// No cell is free for this key's version.
@@ -29,7 +31,7 @@ impl StoreFault {
     {
         match *self {
             StoreFault::Keys(_) => 1,
-            StoreFault::Cells(_) => 3,
+            StoreFault::Cells(_) | StoreFault::Heads(_) => 3,
             StoreFault::KeyOutside(_) => 5,
             StoreFault::Full(_) => 15,
             StoreFault::StaleStamp(_) => 16,
@@ -41,10 +43,8 @@ impl StoreFault {
     {
         match *self {
             StoreFault::Keys(keys) => keys as u64,
-            StoreFault::Cells(cells) => cells as u64,
-            StoreFault::KeyOutside(key) => key as u64,
-            StoreFault::Full(key) => key as u64,
-            StoreFault::StaleStamp(key) => key as u64,
+            StoreFault::Cells(length) | StoreFault::Heads(length) => length as u64,
+            StoreFault::KeyOutside(key) | StoreFault::Full(key) | StoreFault::StaleStamp(key) => key as u64,
         }
     }
 }
