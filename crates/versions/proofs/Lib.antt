@@ -1,0 +1,4 @@
+pub mod Lists
+pub mod Meanings
+mod Logs
+mod Closings

@@ -44,7 +44,8 @@ impl StoreFault {
         match *self {
             StoreFault::Keys(keys) => keys as u64,
             StoreFault::Cells(length) | StoreFault::Heads(length) => length as u64,
-            StoreFault::KeyOutside(key) | StoreFault::Full(key) | StoreFault::StaleStamp(key) => key as u64,
+            StoreFault::KeyOutside(key) | StoreFault::Full(key) | StoreFault::StaleStamp(key) =>
+                key as u64,
         }
     }
 }
