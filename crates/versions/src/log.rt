@@ -156,3 +156,92 @@ pub impl<'a> VersionStore for LogStore<'a> as LogStoreVersions {
         (self.cells.len() - self.used) as u16
     }
 }
+
+#[cfg(test)]
+mod tests {
+    use super::*;
+    use std::test::*;
+
+    const BLANK: Version = Version {
+        key: 9,
+        stamp: 9,
+        value: 9,
+    };
+
+    // The checks of add come in the order key, stamp, cells.
+    #[test]
+    fn add_refuses_in_order() -> Result<(), Fail> {
+        let mut cells = [BLANK; 2];
+        let mut store = LogStore::make(3, &mut cells);
+        check(matches!(store.newest(2), Ok((0, 0))))?;
+        check(matches!(store.add(2, 0, 7), Err(StoreFault::StaleStamp(2))))?;
+        check(matches!(store.add(2, 4, 7), Ok(())))?;
+        check(matches!(store.add(0, 4, 8), Ok(())))?;
+        check(matches!(store.add(3, 0, 1), Err(StoreFault::KeyOutside(3))))?;
+        check(matches!(store.add(2, 4, 1), Err(StoreFault::StaleStamp(2))))?;
+        check(matches!(store.add(2, 5, 1), Err(StoreFault::Full(2))))?;
+        check(matches!(store.newest(2), Ok((4, 7))))?;
+        check(matches!(store.as_of(2, 4), Ok((0, 0))))?;
+        check(matches!(store.as_of(2, 5), Ok((4, 7))))?;
+        check(matches!(store.newest(3), Err(StoreFault::KeyOutside(3))))?;
+        check(matches!(store.as_of(3, 1), Err(StoreFault::KeyOutside(3))))?;
+        check(store.kept() == 2 && store.free() == 0)
+    }
+
+    // How many versions a prune removes of a key stamped 2, 4 and 6 and another stamped 3.
+    fn removed(horizon: u32) -> (u16, u32) {
+        let mut cells = [BLANK; 4];
+        let mut store = LogStore::make(1024, &mut cells);
+        let _ = store.add(1023, 2, 20);
+        let _ = store.add(0, 3, 30);
+        let _ = store.add(1023, 4, 40);
+        let _ = store.add(1023, 6, 60);
+        let count = store.prune(horizon);
+        let oldest = match store.as_of(1023, 5) {
+            Ok((stamp, _)) => stamp,
+            Err(_) => 9,
+        };
+        (count, oldest)
+    }
+
+    #[test]
+    fn prune_goes_by_the_horizon() -> Result<(), Fail> {
+        check(matches!(removed(0), (0, 4)))?;
+        check(matches!(removed(2), (0, 4)))?;
+        check(matches!(removed(4), (0, 4)))?;
+        check(matches!(removed(5), (1, 4)))?;
+        check(matches!(removed(6), (1, 4)))?;
+        check(matches!(removed(7), (2, 0)))?;
+        check(matches!(removed(u32::MAX), (2, 0)))
+    }
+
+    // A store from a refused set-up has no keys and no cells, and answers every call.
+    fn is_void(keys: u16, cells: &mut [Version]) -> bool {
+        let mut store = LogStore::make(keys, cells);
+        let refuses = matches!(store.newest(0), Err(StoreFault::KeyOutside(0)))
+            && matches!(store.as_of(0, 1), Err(StoreFault::KeyOutside(0)))
+            && matches!(store.add(0, 1, 1), Err(StoreFault::KeyOutside(0)));
+        refuses
+            && store.keys() == 0
+            && store.kept() == 0
+            && store.free() == 0
+            && store.prune(9) == 0
+    }
+
+    #[test]
+    fn refused_set_ups_make_void_stores() -> Result<(), Fail> {
+        check(is_void(0, &mut [BLANK; 1]))?;
+        check(is_void(1025, &mut [BLANK; 1]))?;
+        check(is_void(1, &mut []))?;
+        check(is_void(1, &mut [BLANK; 2049]))
+    }
+
+    #[test]
+    fn check_refuses_in_order() -> Result<(), Fail> {
+        check(matches!(LogStore::check(0, 0), Err(StoreFault::Keys(0))))?;
+        check(matches!(LogStore::check(1025, 1), Err(StoreFault::Keys(1025))))?;
+        check(matches!(LogStore::check(1, 0), Err(StoreFault::Cells(0))))?;
+        check(matches!(LogStore::check(1, 2049), Err(StoreFault::Cells(2049))))?;
+        check(matches!(LogStore::check(1024, 2048), Ok(())))
+    }
+}

@@ -1,0 +1,3 @@
+pub mod Days
+pub mod Faults
+pub mod Lines
