@@ -1,0 +1,80 @@
+-- Worked examples of the calls, as a club's engine answers them.
+use mathlib.Core.Path.{_≡_}
+use mathlib.Core.List.{List, [], _∷_}
+use Prim.Native.Nat.{ℕ, _/_}
+use Rattle.ledger.specs.declared.Kind.the-variants.{Reader, Updater}
+use Rattle.ledger.specs.declared.Fault.the-variants.{KeyOutside, NoTransaction}
+use Rattle.ledger.specs.declared.Verdict.the-variants.{Closed, Restart, Spent, Full, Committed}
+use Rattle.ledger.specs.declared.Call.{Call}
+use Rattle.ledger.specs.declared.Call.the-variants.{Begin, Read, Write, Commit, Reclaim}
+use Rattle.ledger.specs.declared.Answer.{Answer}
+use Rattle.ledger.specs.declared.Answer.the-variants.{Began, Read as ReadDone, Wrote, Ended, Reclaimed, Refused}
+use Rattle.ledger.specs.Ledger.{Limits, Ledger, new-ledger}
+use Rattle.ledger.specs.Calls.{Outcome, step}
+
+-- one line of an example: the call, the buffer lent, the answer, and the buffer after
+pub record Line : Type 0 where
+  pub call : Call
+  pub given : List ℕ
+  pub answer : Answer
+  pub left : List ℕ
+
+abbrev pub asks : Call → Answer → Line
+asks c a = record { call = c; given = []; answer = a; left = [] }
+
+abbrev pub reads : Call → List ℕ → Answer → List ℕ → Line
+reads c b a x = record { call = c; given = b; answer = a; left = x }
+
+-- the ledger answers each line so, one after another
+abbrev pub Plays : Ledger → List Line → Type 0
+Plays l [] = Unit {0}
+Plays l (m ∷ ms) = (step l (m .call) (m .given) .answer ≡ m .answer) × (step l (m .call) (m .given) .buffer ≡ m .left) × Plays (step l (m .call) (m .given) .ledger) ms
+
+-- an engine for 64 keys, each its own granule
+abbrev pub club : ℕ → ℕ → Ledger
+club cells last = new-ledger (record { keys = 64; cells = cells; last = last; granule = λ k. k })
+
+-- an engine whose granules have four keys
+abbrev pub coarse : Ledger
+coarse = new-ledger (record { keys = 64; cells = 256; last = 4294967294; granule = λ k. k / 4 })
+
+-- an updater that begins at the tick s writes x to key 0 and is committed at c
+abbrev pub handicap : ℕ → ℕ → ℕ → List Line → List Line
+handicap s x c more = asks (Begin Updater) (Began s) ∷ asks (Write s 0 x) Wrote ∷ asks (Commit s) (Ended (Committed c)) ∷ more
+
+-- a reader keeps seeing what stood at its start; an updater that read what has changed since is restarted
+abbrev pub listing : List Line
+listing =
+    asks (Begin Updater) (Began 1)
+    ∷ asks (Write 1 5 54) Wrote
+    ∷ asks (Begin Reader) (Began 2)
+    ∷ asks (Begin Updater) (Began 3)
+    ∷ reads (Read 3 5 1) (9 ∷ 9 ∷ []) ReadDone (0 ∷ 9 ∷ [])
+    ∷ asks (Commit 1) (Ended (Committed 4))
+    ∷ reads (Read 2 5 2) (9 ∷ 9 ∷ []) ReadDone (0 ∷ 0 ∷ [])
+    ∷ asks (Commit 3) (Ended (Restart 5 4))
+    ∷ asks Reclaim (Reclaimed 0)
+    ∷ asks (Commit 2) (Ended Closed)
+    ∷ reads (Read 2 64 0) (9 ∷ 9 ∷ []) (Refused (NoTransaction 2)) (9 ∷ 9 ∷ [])
+    ∷ asks (Begin Reader) (Began 5)
+    ∷ reads (Read 5 5 1) (9 ∷ 9 ∷ []) ReadDone (54 ∷ 9 ∷ [])
+    ∷ reads (Read 5 64 0) (9 ∷ 9 ∷ []) ReadDone (9 ∷ 9 ∷ [])
+    ∷ reads (Read 5 64 1) (9 ∷ 9 ∷ []) (Refused (KeyOutside 64)) (9 ∷ 9 ∷ [])
+    ∷ []
+
+pub record Examples : Type 0 where
+  pub an-afternoon : Plays (club 256 4294967294) listing
+  -- the begin takes the only tick
+  pub spent : Plays (club 256 1) (asks (Begin Updater) (Began 1) ∷ asks (Commit 1) (Ended Spent) ∷ [])
+  -- two writes into one cell
+  pub full : Plays (club 1 9) (asks (Begin Updater) (Began 1) ∷ asks (Write 1 0 7) Wrote ∷ asks (Write 1 1 8) Wrote ∷ asks (Commit 1) (Ended (Full 2 1)) ∷ [])
+  -- without a reader the version before the last is dead, and its cell is had by a reclaim
+  pub made-room : Plays (club 2 9) (handicap 1 21 2 (handicap 3 22 4 (handicap 5 23 6 [])))
+  -- a reader that began between them keeps both
+  pub kept : Plays (club 2 9) (handicap 1 21 2 (asks (Begin Reader) (Began 3) ∷ handicap 4 22 5 (asks (Begin Updater) (Began 6) ∷ asks (Write 6 0 23) Wrote ∷ asks (Commit 6) (Ended (Full 1 0)) ∷ [])))
+  -- key 3 is in the granule of key 0
+  pub near : Plays coarse (asks (Begin Updater) (Began 1) ∷ reads (Read 1 0 1) (9 ∷ []) ReadDone (0 ∷ []) ∷ asks (Begin Updater) (Began 2) ∷ asks (Write 2 3 7) Wrote ∷ asks (Commit 2) (Ended (Committed 3)) ∷ asks (Commit 1) (Ended (Restart 0 3)) ∷ [])
+  -- key 4 is not
+  pub far : Plays coarse (asks (Begin Updater) (Began 1) ∷ reads (Read 1 0 1) (9 ∷ []) ReadDone (0 ∷ []) ∷ asks (Begin Updater) (Began 2) ∷ asks (Write 2 4 7) Wrote ∷ asks (Commit 2) (Ended (Committed 3)) ∷ asks (Commit 1) (Ended (Committed 4)) ∷ [])
+  -- an updater that read nothing is committed, though another wrote its key since
+  pub blind : Plays (club 256 9) (asks (Begin Updater) (Began 1) ∷ asks (Write 1 5 7) Wrote ∷ asks (Begin Updater) (Began 2) ∷ asks (Write 2 5 8) Wrote ∷ asks (Commit 2) (Ended (Committed 3)) ∷ asks (Commit 1) (Ended (Committed 4)) ∷ [])
