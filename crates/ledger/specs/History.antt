@@ -109,15 +109,6 @@ committed-at Aborted = None
 committed-at (Reclaimed n) = None
 committed-at (Refused f) = None
 
--- the handle under which a call commits
-abbrev pub committing : Call → Option ℕ
-committing (Begin kind) = None
-committing (Read g k n) = None
-committing (Write g k x) = None
-committing (Commit g) = Some g
-committing (Abort g) = None
-committing Reclaim = None
-
 abbrev pub is : ℕ → Option ℕ → Bool
 is t None = false
 is t (Some s) = eqb s t
