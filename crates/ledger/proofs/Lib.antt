@@ -5,3 +5,8 @@ pub mod Deaths
 pub mod Dates
 pub mod Tidies
 pub mod Orders
+pub mod Reclaims
+pub mod Verdicts
+pub mod Stories
+pub mod Serials
+pub mod Histories
