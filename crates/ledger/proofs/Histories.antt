@@ -55,7 +55,7 @@ and-false false = refl
 when-false : {X : Type 0} (b : Bool) (x : X) → when (b && false) x ≡ []
 when-false b x = rw (and-false b)
 
-act-none : (h : ℕ) (c : Call) → act-of h c false ≡ []
+pub act-none : (h : ℕ) (c : Call) → act-of h c false ≡ []
 act-none h (Begin k) = refl
 act-none h (Read g k n) = when-false (eqb g h) (looks k n)
 act-none h (Write g k x) = when-false (eqb g h) (sets k x)
@@ -81,7 +81,7 @@ placed-none (Abort g) f = refl
 placed-none Reclaim f = refl
 
 -- one act more of one transaction
-push-cond : {X : Type 0} (b : Bool) (xs : List X) (x : X) → xs ++ when (b && true) x ≡ cond b (xs ++ (x ∷ [])) xs
+pub push-cond : {X : Type 0} (b : Bool) (xs : List X) (x : X) → xs ++ when (b && true) x ≡ cond b (xs ++ (x ∷ [])) xs
 push-cond true xs x = refl
 push-cond false xs x = append-nil xs
 
@@ -121,7 +121,7 @@ lost-none h (fills e p q) = refl
 told-begin : (s : Story) (k : Kind) (c : ℕ) (b : List ℕ) → stands-so s (told s (Begin k) (Began c) b .stands) ≡ told s (Begin k) (Began c) b
 told-begin s k c b = story-same (stands-so s (told s (Begin k) (Began c) b .stands)) (told s (Begin k) (Began c) b) (λ h. sym (append-nil (s .acts h))) (λ h. sym (append-nil (s .saw h))) (λ t. refl)
 
-found-judged : {l m : Ledger} {n : ℕ} → Judges l n m → (h : ℕ) (t : Transaction) → found (l .active) h ≡ Some t → found (m .active) h ≡ Some t
+pub found-judged : {l m : Ledger} {n : ℕ} → Judges l n m → (h : ℕ) (t : Transaction) → found (l .active) h ≡ Some t → found (m .active) h ≡ Some t
 found-judged (standing p) h t f = f
 found-judged (tidied p) h t f = f
 

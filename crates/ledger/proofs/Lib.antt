@@ -10,3 +10,6 @@ pub mod Verdicts
 pub mod Stories
 pub mod Serials
 pub mod Histories
+pub mod Times
+pub mod Restarts
+pub mod Whole

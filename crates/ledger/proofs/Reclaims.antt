@@ -201,7 +201,7 @@ told-others n (m ∷ ms) t = go (is-reclaim (m .call)) refl (told-others n ms (t
 cons-parts : {X : Type 0} (x y : X) (xs ys : List X) → x ∷ xs ≡ y ∷ ys → (x ≡ y) × (xs ≡ ys)
 cons-parts x y xs ys e = (cc, cc)
 
-made-same : (x y : Made) → x .call ≡ y .call → x .given ≡ y .given → x .answer ≡ y .answer → x .left ≡ y .left → x ≡ y
+pub made-same : (x y : Made) → x .call ≡ y .call → x .given ≡ y .given → x .answer ≡ y .answer → x .left ≡ y .left → x ≡ y
 made-same x y a b c d =
     let mk : Call → List ℕ → Answer → List ℕ → Made = λ p q r s. record { call = p; given = q; answer = r; left = s } in
     ap (λ p. mk p (x .given) (x .answer) (x .left)) a ∙ ap (λ p. mk (y .call) p (x .answer) (x .left)) b ∙ ap (λ p. mk (y .call) (y .given) p (x .left)) c ∙ ap (λ p. mk (y .call) (y .given) (y .answer) p) d

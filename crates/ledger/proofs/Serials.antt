@@ -219,7 +219,7 @@ module _ (s : Story) (l : Ledger) (i : Inv s l) (g : ℕ) (u : Transaction) (f :
   }
 
 -- the keys of a read are in the read list that it leaves
-read-keys-push : (rs : List Range) (r : Range) → read-keys (rs ++ (r ∷ [])) ≡ read-keys rs ++ (keys-from (r .first) (r .count) ++ [])
+pub read-keys-push : (rs : List Range) (r : Range) → read-keys (rs ++ (r ∷ [])) ≡ read-keys rs ++ (keys-from (r .first) (r .count) ++ [])
 read-keys-push [] r = refl
 read-keys-push (x ∷ rs) r = ap (λ ks. keys-from (x .first) (x .count) ++ ks) (read-keys-push rs r) ∙ sym (append-assoc (keys-from (x .first) (x .count)) (read-keys rs) (keys-from (r .first) (r .count) ++ []))
 
@@ -231,7 +231,7 @@ any-covers P k n (r ∷ rs) e al = ⊎-elim
     (λ q. any-covers P k n rs q (all-right P (keys-from (r .first) (r .count)) (read-keys rs) al))
     (or-cases (same-range k n r) (any (same-range k n) rs) e)
 
-joined-covers : (P : ℕ → Type 0) (u : Transaction) (k n : ℕ) → is-reader (u .kind) ≡ false → All P (read-keys (joined u k n .reads)) → All P (read-keys (u .reads)) × All P (keys-from k n)
+pub joined-covers : (P : ℕ → Type 0) (u : Transaction) (k n : ℕ) → is-reader (u .kind) ≡ false → All P (read-keys (joined u k n .reads)) → All P (read-keys (u .reads)) × All P (keys-from k n)
 joined-covers P u k n upd al = go (joins u k n) refl al
   where
     go : (j : Bool) → joins u k n ≡ j → All P (read-keys (cond j (record { start = u .start; kind = u .kind; reads = u .reads ++ (record { first = k; count = n } ∷ []); writes = u .writes }) u .reads)) → All P (read-keys (u .reads)) × All P (keys-from k n)

@@ -30,7 +30,7 @@ use Rattle.ledger.proofs.Orders.{dated, tidy, reached}
 use Rattle.ledger.proofs.Ways.{Judges, standing, tidied, Way, refusing, beginning, reading, writing, closing, losing, committing, aborting, reclaiming, way}
 
 -- a reclaim takes no clash away
-clash-judged : {l m : Ledger} {n : ℕ} → Judges l n m → (t : Transaction) → clash m t ≡ clash l t
+pub clash-judged : {l m : Ledger} {n : ℕ} → Judges l n m → (t : Transaction) → clash m t ≡ clash l t
 clash-judged (standing p) t = refl
 clash-judged {l = l} (tidied p) t = clash-same (reclaimed l .versions) (l .versions) (bare-clear (horizon l) (l .versions) (l .versions)) (l .limits .granule) (t .start) (read-keys (t .reads))
 
@@ -112,7 +112,7 @@ first-past g vs s (k ∷ ks) x e = go (ltb s (granule-stamp g k vs)) refl e (fir
         subst (λ y. (s < y .1) × (y .1 ≡ granule-stamp g (y .0) vs)) i (ltb-true s (granule-stamp g k vs) d, refl)
     go false d q later = later q
 
-granule-le : (g : ℕ → ℕ) (k c : ℕ) (vs : List Version) → All (λ v. v .stamp ≤ c) vs → granule-stamp g k vs ≤ c
+pub granule-le : (g : ℕ → ℕ) (k c : ℕ) (vs : List Version) → All (λ v. v .stamp ≤ c) vs → granule-stamp g k vs ≤ c
 granule-le g k c [] a = omega arith
 granule-le g k c (v ∷ vs) a = let ih = granule-le g k c vs (a .1) in cond-both (eqb (g (v .key)) (g k)) (max (v .stamp) (granule-stamp g k vs)) (granule-stamp g k vs) (λ x. x ≤ c) (λ _. omega (arith, a .0)) (λ _. ih)
 

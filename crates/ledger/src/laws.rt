@@ -1,16 +1,6 @@
 // The laws of the calls, each the contract of a function: it is proved, or the crate is not.
 ghost use Rattle.ledger.specs.Examples.{Examples};
-ghost use Rattle.ledger.specs.Laws.{
-  Serial-law,
-  Reclaim-law,
-  Full-law,
-  Order-law,
-  Death-law,
-  Past-law,
-  Verdict-law,
-  Stamp-law,
-  Blind-law,
-};
+ghost use Rattle.ledger.specs.Laws.{Law, Serial-law, Time-law, Reclaim-law, Restart-law, Full-law, Tick-law, Order-law, Death-law, Past-law, Verdict-law, Stamp-law, Blind-law};
 
 // The worked examples.
 pub fn examples_hold() -> u8
@@ -26,6 +16,13 @@ pub fn histories_are_serial() -> u8
     0
 }
 
+// One that ended before another began stands earlier.
+pub fn order_keeps_time() -> u8
+    ensures { λ _. ⌜ Time-law ⌝ }
+{
+    0
+}
+
 // Reclaims struck out or put in change no other answer.
 pub fn reclaims_move_nothing() -> u8
     ensures { λ _. ⌜ Reclaim-law ⌝ }
@@ -33,9 +30,30 @@ pub fn reclaims_move_nothing() -> u8
     0
 }
 
+// A commit is restarted exactly where another, committed since, wrote what it read.
+pub fn restarts_are_told_by_the_history() -> u8
+    ensures { λ _. ⌜ Restart-law ⌝ }
+{
+    0
+}
+
 // A commit is full exactly where the live versions and its writes exceed the cells.
 pub fn full_only_if_it_must_be() -> u8
     ensures { λ _. ⌜ Full-law ⌝ }
+{
+    0
+}
+
+// All of these at once, for the engine to cite.
+pub fn histories_are_lawful() -> u8
+    ensures { λ _. ⌜ Law ⌝ }
+{
+    0
+}
+
+// Begins and commits draw the ticks from 1 to the clock, each once.
+pub fn ticks_are_drawn_in_turn() -> u8
+    ensures { λ _. ⌜ Tick-law ⌝ }
 {
     0
 }
