@@ -1,19 +1,18 @@
 -- The active transactions: looking one up, changing one, taking one out, and their least start.
 use mathlib.Core.Path.{_≡_, refl, sym, ap, subst, _∙_}
-use mathlib.Core.List.{List, [], _∷_, _++_}
+use mathlib.Core.List.{List, [], _∷_}
 use mathlib.Core.Bool.{Bool, true, false, cond, not}
-use mathlib.Core.Logic.{_⊎_, inl, inr, ⊎-elim}
-use Prim.Native.Nat.{ℕ, suc, _+_, _<_, _≤_, min}
+use mathlib.Core.Logic.{_⊎_, inl, inr}
+use Prim.Native.Nat.{ℕ, _≤_, min}
 use native.Mathlib.Omega.{arith}
 use lib.Dec.{eqb}
-use lib.ListN.{length}
-use Rattle.std.specs.shelf.Lists.{All, kept-by, map}
+use Rattle.std.specs.shelf.Lists.{All, kept-by}
 use Rattle.std.proofs.shelf.Elements.{all-weaker}
-use Rattle.std.proofs.shelf.Tests.{eqb-true, eqb-false, eq-eqb, ne-eqb, cond-both}
+use Rattle.std.proofs.shelf.Tests.{eqb-true, eqb-false, cond-both}
 use Rattle.std.specs.declared.option.Option.{Option}
 use Rattle.std.specs.declared.option.Option.the-variants.{Some, None}
 use Rattle.ledger.specs.declared.Kind.{Kind}
-use Rattle.ledger.specs.Ledger.{Transaction, found, is-reader, least-start}
+use Rattle.ledger.specs.Ledger.{Transaction, found, least-start}
 use Rattle.ledger.specs.Calls.{without, changed, joins, joined}
 use Rattle.ledger.specs.Orderly.{Apart}
 

@@ -1,17 +1,15 @@
 -- The stamps of every ledger that is reached: drawn before, newest first, each key's falling.
-use mathlib.Core.Path.{_≡_, refl, sym, ap, subst, _∙_}
+use mathlib.Core.Path.{_≡_, refl, sym, _∙_}
 use mathlib.Core.List.{List, [], _∷_, _++_}
-use mathlib.Core.Bool.{true, false, not}
+use mathlib.Core.Bool.{true}
 use Prim.Native.Nat.{ℕ, _+_, _<_, _≤_}
 use native.Mathlib.Omega.{arith}
-use lib.Dec.{eqb}
-use Rattle.std.specs.shelf.Lists.{All, kept-by, map}
+use Rattle.std.specs.shelf.Lists.{All, map}
 use Rattle.std.proofs.shelf.Elements.{all-append, all-weaker, all-map, all-kept-by}
-use Rattle.std.specs.declared.option.Option.{Option}
 use Rattle.std.specs.declared.option.Option.the-variants.{Some}
 use Rattle.ledger.specs.declared.Call.{Call}
 use Rattle.ledger.specs.declared.Write.{Write as Entry}
-use Rattle.ledger.specs.Ledger.{Limits, Transaction, Version, Ledger, found, horizon}
+use Rattle.ledger.specs.Ledger.{Transaction, Version, Ledger, found, horizon}
 use Rattle.ledger.specs.Calls.{Outcome, with-active, without, changed, joined, wrote, reclaimed, stamped, installed}
 use Rattle.ledger.specs.Orderly.{Distinct, Fine, Sound, Falling, Strict, Dated}
 use Rattle.ledger.proofs.Actives.{Keeps, joined-keeps, all-found, all-changed-same, all-two}

@@ -1,23 +1,22 @@
 -- Dead versions: what a reclaim leaves of the versions, and what does not look at it.
-use mathlib.Core.Path.{_≡_, refl, sym, ap, subst, _∙_}
+use mathlib.Core.Path.{_≡_, refl, sym, ap, _∙_}
 use mathlib.Core.List.{List, [], _∷_, _++_}
 use mathlib.Core.Bool.{Bool, true, false, cond, not, _&&_, _||_}
-use mathlib.Core.Logic.{_⊎_, inl, inr, ⊎-elim}
-use Prim.Native.Nat.{ℕ, suc, _+_, _-_, _<_, _≤_, max, min}
+use mathlib.Core.Logic.{⊎-elim}
+use Prim.Native.Nat.{ℕ, suc, _+_, _<_, _≤_, max, min}
 use native.Mathlib.Omega.{arith}
-use lib.Dec.{leb, ltb, eqb}
+use lib.Dec.{ltb, eqb}
 use lib.ListN.{length}
 use Rattle.std.specs.shelf.Lists.{kept-by, map}
 use Rattle.std.proofs.shelf.Lists.{map-append, append-assoc}
 use Rattle.std.proofs.shelf.Tests.{lt-ltb, ltb-true, and-parts, and-from, or-cases, or-left, or-right}
-use Rattle.std.specs.declared.option.Option.{Option}
-use Rattle.std.specs.declared.option.Option.the-variants.{Some, None}
+use Rattle.std.specs.declared.option.Option.the-variants.{Some}
 use Rattle.std.specs.shelf.Lists.{All}
 use Rattle.std.proofs.shelf.Tests.{ltb-false, cond-both}
 use Rattle.ledger.specs.declared.Kind.{Kind}
 use Rattle.ledger.specs.declared.Call.{Call}
-use Rattle.ledger.specs.Ledger.{Transaction, Version, Ledger, is-reader, least-start, horizon, any, superseded, dead, present-count, dead-count, value-below, newest-value}
-use Rattle.ledger.specs.Calls.{Outcome, step, with-active, without, changed, opened, fresh, joined, wrote, granule-stamp, first-clash, reclaimed, free, too-full, stamped, installed}
+use Rattle.ledger.specs.Ledger.{Transaction, Version, Ledger, is-reader, least-start, horizon, superseded, dead, present-count, dead-count, value-below, newest-value}
+use Rattle.ledger.specs.Calls.{Outcome, with-active, without, changed, opened, joined, wrote, granule-stamp, first-clash, reclaimed, free, too-full, stamped, installed}
 use Rattle.ledger.specs.Laws.{newest-below, live-count}
 use Rattle.ledger.proofs.Actives.{Keeps, joined-keeps, least-later, least-kept, least-le, least-changed}
 use Rattle.ledger.proofs.Sounds.{writes-keeps}

@@ -1,13 +1,13 @@
 -- Every history that the ledger tells is serial.
 use mathlib.Core.Path.{_≡_, refl, sym, ap, subst, _∙_, fun-ext}
 use mathlib.Core.List.{List, [], _∷_, _++_}
-use mathlib.Core.Bool.{Bool, true, false, cond, not, _&&_, _||_}
-use mathlib.Core.Logic.{_⊎_, inl, inr, ⊎-elim}
-use Prim.Native.Nat.{ℕ, zero, suc, _+_, _<_, _≤_, max}
+use mathlib.Core.Bool.{Bool, true, false, cond, _&&_}
+use mathlib.Core.Logic.{inl, inr, ⊎-elim}
+use Prim.Native.Nat.{ℕ, zero, suc, _+_, _<_, _≤_}
 use native.Mathlib.Omega.{arith}
-use lib.Dec.{leb, ltb, eqb}
+use lib.Dec.{eqb}
 use lib.ListN.{length, take, drop}
-use Rattle.std.specs.shelf.Lists.{All, kept-by, map}
+use Rattle.std.specs.shelf.Lists.{map}
 use Rattle.std.proofs.shelf.Lists.{append-nil, take-at, length-map}
 use Rattle.std.proofs.shelf.Elements.{all-map}
 use Rattle.std.proofs.shelf.Tests.{eq-eqb, ne-eqb, cases-lt}
@@ -17,24 +17,23 @@ use Rattle.ledger.specs.declared.Kind.{Kind}
 use Rattle.ledger.specs.declared.Kind.the-variants.{Reader, Updater}
 use Rattle.ledger.specs.declared.Fault.{Fault}
 use Rattle.ledger.specs.declared.Verdict.{Verdict}
-use Rattle.ledger.specs.declared.Verdict.the-variants.{Closed, Restart, Spent, Full, Committed}
+use Rattle.ledger.specs.declared.Verdict.the-variants.{Closed, Committed}
 use Rattle.ledger.specs.declared.Call.{Call}
 use Rattle.ledger.specs.declared.Call.the-variants.{Begin, Read, Write, Commit, Abort, Reclaim}
 use Rattle.ledger.specs.declared.Answer.{Answer}
 use Rattle.ledger.specs.declared.Answer.the-variants.{Began, Read as ReadDone, Wrote, Ended, Aborted, Reclaimed, Refused}
-use Rattle.ledger.specs.Ledger.{Transaction, Version, Limits, Ledger, found, is-reader, horizon, dead-count, value-below, newest-value}
+use Rattle.ledger.specs.Ledger.{Transaction, Limits, Ledger, found, horizon, dead-count, newest-value}
 use Rattle.ledger.specs.Calls.{Outcome, step, seen, keys-from, with-active, without, opened, reclaimed}
 use Rattle.ledger.specs.History.{Made, after, Told, Act, looks, sets, accepted, act-of, acts, when, saw-in, saw, placed, at-tick, stands-at}
-use Rattle.ledger.specs.Serial.{Table, table, run, acts-of, run-reads}
+use Rattle.ledger.specs.Serial.{table, run, acts-of, run-reads}
 use Rattle.ledger.specs.Orderly.{Sound}
-use Rattle.ledger.specs.Laws.{Serial-law}
 use Rattle.ledger.proofs.Actives.{found-without, never}
 use Rattle.ledger.proofs.Sounds.{sound-after}
 use Rattle.ledger.proofs.Deaths.{clear, bare-clear, value-same, newest-same, granule-same}
 use Rattle.ledger.proofs.Orders.{sound, reached}
 use Rattle.ledger.proofs.Ways.{Judges, standing, tidied, Loses, restarts, spends, fills, Way, refusing, beginning, reading, writing, closing, losing, committing, aborting, reclaiming, way}
 use Rattle.ledger.proofs.Stories.{Story, tab, acts-at, value-newest}
-use Rattle.ledger.proofs.Serials.{Inv, inv-less, standing as stands-so, inv-begin, did, inv-read, inv-write, stood, inv-commit}
+use Rattle.ledger.proofs.Serials.{Inv, inv-less, placing, inv-begin, did, inv-read, inv-write, stood, inv-commit}
 
 story-same : (s z : Story) → ((h : ℕ) → s .acts h ≡ z .acts h) → ((h : ℕ) → s .saw h ≡ z .saw h) → ((t : ℕ) → s .stands t ≡ z .stands t) → s ≡ z
 story-same s z a b c =
@@ -118,14 +117,14 @@ lost-none h (restarts x e) = refl
 lost-none h (spends e p) = refl
 lost-none h (fills e p q) = refl
 
-told-begin : (s : Story) (k : Kind) (c : ℕ) (b : List ℕ) → stands-so s (told s (Begin k) (Began c) b .stands) ≡ told s (Begin k) (Began c) b
-told-begin s k c b = story-same (stands-so s (told s (Begin k) (Began c) b .stands)) (told s (Begin k) (Began c) b) (λ h. sym (append-nil (s .acts h))) (λ h. sym (append-nil (s .saw h))) (λ t. refl)
+told-begin : (s : Story) (k : Kind) (c : ℕ) (b : List ℕ) → placing s (told s (Begin k) (Began c) b .stands) ≡ told s (Begin k) (Began c) b
+told-begin s k c b = story-same (placing s (told s (Begin k) (Began c) b .stands)) (told s (Begin k) (Began c) b) (λ h. sym (append-nil (s .acts h))) (λ h. sym (append-nil (s .saw h))) (λ t. refl)
 
 pub found-judged : {l m : Ledger} {n : ℕ} → Judges l n m → (h : ℕ) (t : Transaction) → found (l .active) h ≡ Some t → found (m .active) h ≡ Some t
 found-judged (standing p) h t f = f
 found-judged (tidied p) h t f = f
 
-begin-stands : (s : Story) (l : Ledger) → Inv s l → (k : Kind) (b : List ℕ) → Sound (opened l k) → Inv (stands-so s (told s (Begin k) (Began (l .clock + 1)) b .stands)) (opened l k)
+begin-stands : (s : Story) (l : Ledger) → Inv s l → (k : Kind) (b : List ℕ) → Sound (opened l k) → Inv (placing s (told s (Begin k) (Began (l .clock + 1)) b .stands)) (opened l k)
 begin-stands s l i Updater b fine = inv-begin s l i Updater (s .stands) (λ t le. refl) (λ t lt. i .later t (omega arith)) (inl (i .later (suc (l .clock)) (omega arith))) fine
 begin-stands s l i Reader b fine =
     inv-begin s l i Reader (λ t. cond (eqb (l .clock + 1) t) (Some (l .clock + 1)) (s .stands t))
@@ -182,15 +181,19 @@ starts-late : (st : ℕ → Option ℕ) → st 0 ≡ None → (t h : ℕ) → st
 starts-late st z zero h e = never h (st 0) z e
 starts-late st z (suc t) h e = omega arith
 
-stands-within : {s : Story} {l : Ledger} → Inv s l → (t h : ℕ) → s .stands t ≡ Some h → t ≤ l .clock
-stands-within {s = s} {l = l} i t h e = ⊎-elim (λ lt. never h (s .stands t) (i .later t lt) e) (λ le. le) (cases-lt (l .clock) t)
+-- who stands, stands at a tick that was drawn
+pub within : (n : Limits) (ms : List Made) → Told n ms → (t h : ℕ) → stands-at ms t ≡ Some h → (0 < t) × (t ≤ after n ms .clock)
+within n ms told t h e =
+    let i = inv n ms told in
+    (starts-late (stands-at ms) (i .first) t h e, ⊎-elim (λ lt. never h (stands-at ms t) (i .later t lt) e) (λ le. le) (cases-lt (after n ms .clock) t))
 
-pub serial : Serial-law
-serial n ms t =
-    let i = inv n ms t in
+-- run alone in its place, each reads what it read
+pub run-alone : (n : Limits) (ms : List Made) → Told n ms → (t h : ℕ) → stands-at ms (suc t) ≡ Some h → run-reads (acts h ms) (table ms t) ≡ saw h ms
+run-alone n ms told t h e = ap (run-reads (acts h ms)) (table-is ms t) ∙ inv n ms told .placed t h e .same
+
+-- and together they leave the newest values
+pub leaves : (n : Limits) (ms : List Made) → Told n ms → (k : ℕ) → newest-value k (after n ms .versions) ≡ table ms (after n ms .clock) k
+leaves n ms told k =
+    let i = inv n ms told in
     let l = after n ms in
-    record {
-      within = λ c h e. (starts-late (stands-at ms) (i .first) c h e, stands-within i c h e);
-      reads = λ c h e. ap (run-reads (acts h ms)) (table-is ms c) ∙ i .placed c h e .same;
-      newest-is = λ k lt. sym (value-newest k (l .clock) (suc (l .clock)) (l .versions) (i .stamps) (omega arith)) ∙ i .value (l .clock) k (omega arith) ∙ ap (λ v. v k) (sym (table-is ms (l .clock)));
-    }
+    sym (value-newest k (l .clock) (suc (l .clock)) (l .versions) (i .stamps) (omega arith)) ∙ i .value (l .clock) k (omega arith) ∙ ap (λ v. v k) (sym (table-is ms (l .clock)))

@@ -2,11 +2,11 @@
 use mathlib.Core.Path.{_≡_, refl, sym, ap, subst, _∙_}
 use mathlib.Core.List.{List, [], _∷_, _++_}
 use mathlib.Core.Bool.{Bool, true, false, cond, not, _&&_}
-use Prim.Native.Nat.{ℕ, suc, _+_, _-_, _<_, _≤_}
+use Prim.Native.Nat.{ℕ, _+_, _-_, _≤_}
 use native.Mathlib.Omega.{arith}
-use lib.Dec.{leb, ltb, eqb}
+use lib.Dec.{leb, ltb}
 use lib.ListN.{length, drop}
-use Rattle.std.specs.shelf.Lists.{All, kept-by, map}
+use Rattle.std.specs.shelf.Lists.{kept-by, map}
 use Rattle.std.proofs.shelf.Tests.{ltb-true, ltb-false}
 use Rattle.std.specs.Options.{valueOr}
 use Rattle.std.specs.declared.option.Option.{Option}
@@ -20,12 +20,12 @@ use Rattle.ledger.specs.declared.Answer.the-variants.{Ended}
 use Rattle.ledger.specs.declared.Call.{Call}
 use Rattle.ledger.specs.declared.Call.the-variants.{Begin, Read, Write, Commit, Abort, Reclaim}
 use Rattle.ledger.specs.Ledger.{Limits, Transaction, Version, Ledger, found, is-reader, least-start, horizon, superseded, present-count, dead-count, own-write, value-below, newest-value}
-use Rattle.ledger.specs.Calls.{Outcome, refused, with-active, without, changed, out-of-ticks, in-table, opened, seen, keys-from, joins, joined, read-by, no-room, wrote, write-by, reclaimed, clash, read-keys, free, too-full, stamped, ended, installed, judged-by, judged, commit-by, abort-by, step}
+use Rattle.ledger.specs.Calls.{Outcome, refused, with-active, without, changed, out-of-ticks, in-table, seen, keys-from, joins, joined, read-by, no-room, wrote, write-by, reclaimed, read-keys, free, too-full, stamped, ended, installed, judged-by, judged, commit-by, abort-by, step}
 use Rattle.ledger.specs.History.{is-reclaim, Made, after, Told, others, asked}
 use Rattle.ledger.specs.Laws.{Reclaim-law, Verdict-law}
 use Rattle.ledger.proofs.Actives.{Keeps, joined-keeps}
 use Rattle.ledger.proofs.Sounds.{writes-keeps}
-use Rattle.ledger.proofs.Deaths.{tidy, clear, bare-tidy, value-same, newest-same, clash-same, tidy-more, tidy-again, present-tidy, map-same, dead-count-reclaimed, horizon-opened, horizon-out, horizon-changed, horizon-installed}
+use Rattle.ledger.proofs.Deaths.{tidy, clear, bare-tidy, value-same, newest-same, clash-same, tidy-more, tidy-again, map-same, dead-count-reclaimed, horizon-opened, horizon-out, horizon-changed, horizon-installed}
 
 abbrev like : Ledger → List Version → ℕ → Ledger
 like l vs n = record { limits = l .limits; clock = l .clock; active = l .active; versions = vs; trimmed = n }

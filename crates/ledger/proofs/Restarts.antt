@@ -2,32 +2,30 @@
 use mathlib.Core.Path.{_≡_, refl, sym, ap, subst, _∙_}
 use mathlib.Core.List.{List, [], _∷_, _++_}
 use mathlib.Core.Bool.{Bool, true, false, cond, not, _&&_, _||_}
-use mathlib.Core.Logic.{_⊎_, inl, inr, ⊎-elim}
-use Prim.Native.Nat.{ℕ, zero, suc, _+_, _<_, _≤_, max}
+use mathlib.Core.Logic.{⊎-elim}
+use Prim.Native.Nat.{ℕ, _+_, _<_, _≤_, max}
 use native.Mathlib.Omega.{arith}
 use lib.Dec.{ltb, eqb}
 use lib.ListN.{length}
 use Rattle.std.specs.shelf.Lists.{All}
 use Rattle.std.proofs.shelf.Lists.{append-nil, append-assoc}
-use Rattle.std.proofs.shelf.Elements.{all-append}
-use Rattle.std.proofs.shelf.Tests.{eqb-true, eqb-false, eq-eqb, ne-eqb, lt-ltb, le-ltb, cases-eq, cond-both, not-false, not-true}
+use Rattle.std.proofs.shelf.Tests.{eqb-true, eq-eqb, ne-eqb, lt-ltb, le-ltb, cases-eq, cond-both, not-true}
 use Rattle.std.specs.declared.option.Option.{Option}
 use Rattle.std.specs.declared.option.Option.the-variants.{Some, None}
 use Rattle.ledger.specs.declared.Kind.{Kind}
 use Rattle.ledger.specs.declared.Kind.the-variants.{Reader, Updater}
-use Rattle.ledger.specs.declared.Range.{Range}
 use Rattle.ledger.specs.declared.Write.{Write as Entry}
 use Rattle.ledger.specs.declared.Fault.{Fault}
 use Rattle.ledger.specs.declared.Verdict.{Verdict}
-use Rattle.ledger.specs.declared.Verdict.the-variants.{Closed, Restart, Spent, Full, Committed}
+use Rattle.ledger.specs.declared.Verdict.the-variants.{Committed}
 use Rattle.ledger.specs.declared.Call.{Call}
 use Rattle.ledger.specs.declared.Call.the-variants.{Begin, Read, Write, Commit, Abort, Reclaim}
 use Rattle.ledger.specs.declared.Answer.{Answer}
-use Rattle.ledger.specs.declared.Answer.the-variants.{Began, Read as ReadDone, Wrote, Ended, Aborted, Reclaimed, Refused}
+use Rattle.ledger.specs.declared.Answer.the-variants.{Began, Ended, Refused}
 use Rattle.ledger.specs.Ledger.{Limits, Transaction, Version, Ledger, found, is-reader, horizon, any, written}
-use Rattle.ledger.specs.Calls.{Outcome, step, with-active, without, changed, opened, fresh, keys-from, joins, joined, wrote, reclaimed, read-keys, granule-stamp, first-clash, clash, stamped, installed, commit-by}
+use Rattle.ledger.specs.Calls.{Outcome, step, with-active, without, changed, opened, fresh, keys-from, joins, joined, wrote, reclaimed, read-keys, granule-stamp, first-clash, stamped, installed, commit-by}
 use Rattle.ledger.specs.Orderly.{Fine, Sound, Dated}
-use Rattle.ledger.specs.History.{Made, after, Told, Act, looks, sets, accepted, acts, act-of, began-at, committed-at, is, begins, begins-updater, updater-in, with-handle}
+use Rattle.ledger.specs.History.{Made, after, Told, Act, looks, sets, accepted, acts, act-of, began-at, is-tick, begins-updater, updater-in}
 use Rattle.ledger.specs.Clashes.{keys-read, sets-in, commit-of, tick-into, commit-into, into, struck, first-struck, restart-of}
 use Rattle.ledger.specs.Laws.{Restart-law}
 use Rattle.ledger.proofs.Actives.{Keeps, joined-keeps, joined-writes, all-found, found-start, found-without, found-changed, never, some-same}
@@ -38,8 +36,8 @@ use Rattle.ledger.proofs.Ways.{Judges, standing, tidied, Loses, restarts, spen
 use Rattle.ledger.proofs.Verdicts.{told-older, granule-le, restart-is}
 use Rattle.ledger.proofs.Serials.{joined-covers, read-keys-push}
 use Rattle.ledger.proofs.Reclaims.{made-same}
-use Rattle.ledger.proofs.Times.{clock-judged, clock-after}
-use Rattle.ledger.proofs.Histories.{act-none, found-judged, push-cond}
+use Rattle.ledger.proofs.Times.{clock-judged}
+use Rattle.ledger.proofs.Histories.{act-none, push-cond}
 
 -- The first key that has something
 
@@ -158,7 +156,7 @@ made c b o = record { call = c; given = b; answer = o .answer; left = o .buffer 
 
 no-updater : (h : ℕ) (c : Call) (a : Answer) → began-at a ≡ None → begins-updater h c a ≡ false
 no-updater h (Begin Reader) a e = refl
-no-updater h (Begin Updater) a e = ap (is h) e
+no-updater h (Begin Updater) a e = ap (is-tick h) e
 no-updater h (Read g k n) a e = refl
 no-updater h (Write g k x) a e = refl
 no-updater h (Commit g) a e = refl
@@ -174,7 +172,7 @@ module _ (m : Made) (ms : List Made) (idle : began-at (m .answer) ≡ None) (los
   commit-same g k = ap (λ o. max (tick-into g k o ms) (commit-into g k ms)) lost ∙ max-zero (commit-into g k ms)
 
   struck-same : (g : ℕ → ℕ) (k h : ℕ) → struck g k h (m ∷ ms) ≡ struck g k h ms
-  struck-same g k h = ap (λ o. not (is h o) && (into g k (commit-of (m .call) (m .answer)) ms || struck g k h ms)) idle ∙ ap (λ o. into g k o ms || struck g k h ms) lost
+  struck-same g k h = ap (λ o. not (is-tick h o) && (into g k (commit-of (m .call) (m .answer)) ms || struck g k h ms)) idle ∙ ap (λ o. into g k o ms || struck g k h ms) lost
 
   updater-same : (h : ℕ) → updater-in h (m ∷ ms) ≡ updater-in h ms
   updater-same h = ap (λ b. b || updater-in h ms) (no-updater h (m .call) (m .answer) idle)

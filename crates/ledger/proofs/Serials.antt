@@ -1,28 +1,24 @@
 -- What holds of a story and of the ledger that tells it, call by call.
 use mathlib.Core.Path.{_≡_, refl, sym, ap, subst, _∙_}
 use mathlib.Core.List.{List, [], _∷_, _++_}
-use mathlib.Core.Bool.{Bool, true, false, cond, not, _&&_, _||_}
-use mathlib.Core.Logic.{_⊎_, inl, inr, ⊎-elim}
-use Prim.Native.Nat.{ℕ, zero, suc, _+_, _<_, _≤_, max}
+use mathlib.Core.Bool.{Bool, true, false, cond, not, _&&_}
+use mathlib.Core.Logic.{_⊎_, ⊎-elim}
+use Prim.Native.Nat.{ℕ, suc, _+_, _<_, _≤_}
 use native.Mathlib.Omega.{arith}
-use native.Mathlib.Numerals.{add-one}
-use lib.Dec.{leb, ltb, eqb}
-use lib.ListN.{length, take, drop}
-use Rattle.std.specs.shelf.Lists.{All, kept-by, map}
-use Rattle.std.proofs.shelf.Lists.{append-nil, append-assoc}
-use Rattle.std.proofs.shelf.Elements.{all-append, all-weaker, all-map}
-use Rattle.std.proofs.shelf.Tests.{ltb-true, ltb-false, le-ltb, lt-ltb, eqb-true, eqb-false, eq-eqb, ne-eqb, cond-both, cases-lt, cases-eq, and-parts, or-cases, not-false}
+use lib.Dec.{ltb, eqb}
+use Rattle.std.specs.shelf.Lists.{All, map}
+use Rattle.std.proofs.shelf.Lists.{append-assoc}
+use Rattle.std.proofs.shelf.Elements.{all-append, all-weaker}
+use Rattle.std.proofs.shelf.Tests.{ltb-false, eqb-true, eq-eqb, ne-eqb, cond-both, cases-lt, cases-eq, and-parts, or-cases, not-false}
 use Rattle.std.specs.Options.{valueOr}
 use Rattle.std.specs.declared.option.Option.{Option}
 use Rattle.std.specs.declared.option.Option.the-variants.{Some, None}
 use Rattle.ledger.specs.declared.Kind.{Kind}
-use Rattle.ledger.specs.declared.Kind.the-variants.{Reader, Updater}
 use Rattle.ledger.specs.declared.Range.{Range}
-use Rattle.ledger.specs.declared.Write.{Write as Entry}
-use Rattle.ledger.specs.Ledger.{Transaction, Version, Ledger, found, is-reader, any, value-below, newest-value, own-write, written}
-use Rattle.ledger.specs.Calls.{seen, keys-from, granule-stamp, first-clash, read-keys, stamped, with-active, without, changed, fresh, opened as opening, installed, joins, joined, wrote, same-range}
+use Rattle.ledger.specs.Ledger.{Transaction, Ledger, found, is-reader, any, value-below, newest-value, own-write}
+use Rattle.ledger.specs.Calls.{seen, keys-from, granule-stamp, first-clash, read-keys, stamped, with-active, changed, fresh, opened as opening, installed, joins, joined, wrote, same-range}
 use Rattle.ledger.specs.History.{Act, looks, sets}
-use Rattle.ledger.specs.Serial.{Table, act, run, gives, run-reads}
+use Rattle.ledger.specs.Serial.{Table, run, run-reads}
 use Rattle.ledger.specs.Orderly.{Fine, Sound}
 use Rattle.ledger.proofs.Actives.{Keeps, joined-keeps, joined-writes, all-found, found-start, found-without, found-changed, some-same, never}
 use Rattle.ledger.proofs.Sounds.{writes-keeps}
@@ -91,25 +87,25 @@ inv-less s l m i fine clock limits less stamps values news grans = record {
 }
 
 -- a story in which only who stands where is changed
-abbrev pub standing : Story → (ℕ → Option ℕ) → Story
-standing s st = record { acts = s .acts; saw = s .saw; stands = st }
+abbrev pub placing : Story → (ℕ → Option ℕ) → Story
+placing s st = record { acts = s .acts; saw = s .saw; stands = st }
 
-tab-before : (s : Story) (st : ℕ → Option ℕ) (c t : ℕ) → ((n : ℕ) → n ≤ c → st n ≡ s .stands n) → t ≤ c → tab (standing s st) t ≡ tab s t
-tab-before s st c t e le = tab-same (standing s st) s t (λ n v lt. ap (λ o. run (acts-at s o) v) (e (suc n) (omega arith)))
+tab-before : (s : Story) (st : ℕ → Option ℕ) (c t : ℕ) → ((n : ℕ) → n ≤ c → st n ≡ s .stands n) → t ≤ c → tab (placing s st) t ≡ tab s t
+tab-before s st c t e le = tab-same (placing s st) s t (λ n v lt. ap (λ o. run (acts-at s o) v) (e (suc n) (omega arith)))
 
 module _ (s : Story) (l : Ledger) (i : Inv s l) (k : Kind) (st : ℕ → Option ℕ)
     (before : (t : ℕ) → t ≤ l .clock → st t ≡ s .stands t)
     (past : (t : ℕ) → l .clock + 1 < t → st t ≡ None)
     (here : (st (suc (l .clock)) ≡ None) ⊎ ((st (suc (l .clock)) ≡ Some (l .clock + 1)) × (is-reader k ≡ true))) where
-  begin-tab : tab (standing s st) (suc (l .clock)) ≡ tab s (l .clock)
+  begin-tab : tab (placing s st) (suc (l .clock)) ≡ tab s (l .clock)
   begin-tab =
       let quiet : acts-at s (st (suc (l .clock))) ≡ [] = ⊎-elim (λ e. ap (acts-at s) e) (λ e. ap (acts-at s) (e .0) ∙ i .silent (l .clock + 1) (omega arith) .0) here in
-      ap (λ ac. run ac (tab (standing s st) (l .clock))) quiet ∙ tab-before s st (l .clock) (l .clock) before (omega arith)
+      ap (λ ac. run ac (tab (placing s st) (l .clock))) quiet ∙ tab-before s st (l .clock) (l .clock) before (omega arith)
 
-  begin-value : (t j : ℕ) → t ≤ l .clock + 1 → value-below j (suc t) (l .versions) ≡ tab (standing s st) t j
+  begin-value : (t j : ℕ) → t ≤ l .clock + 1 → value-below j (suc t) (l .versions) ≡ tab (placing s st) t j
   begin-value t j le = ⊎-elim
       (λ lt. let e : t ≡ suc (l .clock) = omega arith in
-      subst (λ x. value-below j (suc x) (l .versions) ≡ tab (standing s st) x j) (sym e)
+      subst (λ x. value-below j (suc x) (l .versions) ≡ tab (placing s st) x j) (sym e)
       (value-newest j (l .clock) (suc (suc (l .clock))) (l .versions) (i .stamps) (omega arith) ∙ sym (value-newest j (l .clock) (suc (l .clock)) (l .versions) (i .stamps) (omega arith)) ∙ i .value (l .clock) j (omega arith) ∙ ap (λ v. v j) (sym begin-tab)))
       (λ ge. i .value t j ge ∙ ap (λ v. v j) (sym (tab-before s st (l .clock) t before ge)))
       (cases-lt (l .clock) t)
@@ -120,7 +116,7 @@ module _ (s : Story) (l : Ledger) (i : Inv s l) (k : Kind) (st : ℕ → Option 
   found-new : (h : ℕ) (t : Transaction) → l .clock + 1 ≡ h → found (opening l k .active) h ≡ Some t → fresh (l .clock + 1) k ≡ t
   found-new h t e f = some-same _ t (Some (fresh (l .clock + 1) k)) refl (rw (eq-eqb (l .clock + 1) h e) at f)
 
-  begin-placed : (t h : ℕ) → st (suc t) ≡ Some h → Placed (standing s st) (opening l k) t h
+  begin-placed : (t h : ℕ) → st (suc t) ≡ Some h → Placed (placing s st) (opening l k) t h
   begin-placed t h e = ⊎-elim
       (λ lt. ⊎-elim
       (λ far. never h (st (suc t)) (past (suc t) far) e)
@@ -129,22 +125,22 @@ module _ (s : Story) (l : Ledger) (i : Inv s l) (k : Kind) (st : ℕ → Option 
       ⊎-elim (λ none. never h (st (suc (l .clock))) none e′)
       (λ new. let is : l .clock + 1 ≡ h = some-same _ h (st (suc (l .clock))) (new .0) e′ in
       let q = i .silent h (omega (arith, is)) in
-      record { known = omega arith; same = ap (λ ac. run-reads ac (tab (standing s st) t)) (q .0) ∙ sym (q .1); alone = λ u f. (ap (λ x. is-reader (x .kind)) (sym (found-new h u is f)) ∙ new .1, omega arith) })
+      record { known = omega arith; same = ap (λ ac. run-reads ac (tab (placing s st) t)) (q .0) ∙ sym (q .1); alone = λ u f. (ap (λ x. is-reader (x .kind)) (sym (found-new h u is f)) ∙ new .1, omega arith) })
       here)
       (cases-lt (l .clock + 1) (suc t)))
       (λ ge. let p = i .placed t h (sym (before (suc t) ge) ∙ e) in
       record { known = omega (arith, p .known); same = ap (run-reads (s .acts h)) (tab-before s st (l .clock) t before (omega arith)) ∙ p .same; alone = λ u f. p .alone u (found-old h u (λ q. omega (arith, p .known)) f) })
       (cases-lt (l .clock) (suc t))
 
-  begin-opened : (h : ℕ) (t : Transaction) → found (opening l k .active) h ≡ Some t → Opened (standing s st) (opening l k) h t
+  begin-opened : (h : ℕ) (t : Transaction) → found (opening l k .active) h ≡ Some t → Opened (placing s st) (opening l k) h t
   begin-opened h t f = ⊎-elim
       (λ is. let q = i .silent h (omega (arith, is)) in
-      subst (λ x. Opened (standing s st) (opening l k) h x) (found-new h t is f)
+      subst (λ x. Opened (placing s st) (opening l k) h x) (found-new h t is f)
       (record { own = λ v j. ap (λ ac. run ac v j) (q .0); saw = λ _ v _. ap (λ ac. run-reads ac v) (q .0) ∙ sym (q .1); none = λ _. refl }))
       (λ ne. let o = i .opened h t (found-old h t ne f) in record { own = o .own; saw = o .saw; none = o .none })
       (cases-eq (l .clock + 1) h)
 
-  pub inv-begin : Sound (opening l k) → Inv (standing s st) (opening l k)
+  pub inv-begin : Sound (opening l k) → Inv (placing s st) (opening l k)
   inv-begin fine = record {
     fine = fine;
     stamps = all-weaker _ _ (λ v le. omega arith) (l .versions) (i .stamps);
@@ -315,7 +311,7 @@ module _ (s : Story) (l : Ledger) (i : Inv s l) (g : ℕ) (u : Transaction) (f :
       })
 
 abbrev pub stood : Story → ℕ → ℕ → Story
-stood s c g = standing s (λ t. cond (eqb c t) (Some g) (s .stands t))
+stood s c g = placing s (λ t. cond (eqb c t) (Some g) (s .stands t))
 
 module _ (s : Story) (l : Ledger) (i : Inv s l) (g : ℕ) (u : Transaction) (f : found (l .active) g ≡ Some u) (upd : is-reader (u .kind) ≡ false) (clear : first-clash (l .limits .granule) (l .versions) (u .start) (read-keys (u .reads)) ≡ None) where
   abbrev c : ℕ

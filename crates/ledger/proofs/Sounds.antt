@@ -10,10 +10,8 @@ use Rattle.std.specs.shelf.Lists.{All, kept-by, map}
 use Rattle.std.proofs.shelf.Elements.{all-weaker, all-kept-by, all-map, all-push}
 use Rattle.std.proofs.shelf.Lists.{length-map, length-push}
 use Rattle.std.proofs.shelf.Tests.{eqb-true, eqb-false, leb-false, ltb-true, cond-both, and-parts, not-true, both-ways}
-use Rattle.std.specs.declared.option.Option.{Option}
-use Rattle.std.specs.declared.option.Option.the-variants.{Some, None}
+use Rattle.std.specs.declared.option.Option.the-variants.{Some}
 use Rattle.ledger.specs.declared.Call.{Call}
-use Rattle.ledger.specs.declared.Range.{Range}
 use Rattle.ledger.specs.declared.Write.{Write}
 use Rattle.ledger.specs.Ledger.{Limits, Transaction, Ledger, found, is-reader, own-write, written, any}
 use Rattle.ledger.specs.Calls.{Outcome, without, changed, joins, joined, same-range, no-room, is-some, wrote}

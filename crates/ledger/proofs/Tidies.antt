@@ -1,22 +1,21 @@
 -- In every ledger that is reached a removed version is dead, the cells hold what is present, and no trim goes too far.
-use mathlib.Core.Path.{_≡_, refl, sym, ap, subst, _∙_}
+use mathlib.Core.Path.{_≡_, refl, ap, _∙_}
 use mathlib.Core.List.{List, [], _∷_, _++_}
 use mathlib.Core.Bool.{Bool, true, false, not, _&&_}
-use Prim.Native.Nat.{ℕ, _+_, _-_, _<_, _≤_, max}
+use Prim.Native.Nat.{ℕ, _+_, _≤_, max}
 use native.Mathlib.Omega.{arith}
-use lib.Dec.{eqb}
 use lib.ListN.{length}
-use Rattle.std.specs.shelf.Lists.{All, kept-by, map}
+use Rattle.std.specs.shelf.Lists.{All, kept-by}
 use Rattle.std.proofs.shelf.Elements.{all-append, all-weaker, all-map, all-kept-by}
 use Rattle.ledger.specs.declared.Call.{Call}
 use Rattle.ledger.specs.declared.Write.{Write as Entry}
-use Rattle.ledger.specs.Ledger.{Transaction, Version, Ledger, is-reader, least-start, horizon, trim-tick, superseded, dead, present-count}
+use Rattle.ledger.specs.Ledger.{Transaction, Version, Ledger, is-reader, least-start, horizon, trim-tick, dead}
 use Rattle.ledger.specs.Calls.{Outcome, with-active, without, changed, opened, joined, wrote, reclaimed, free, stamped, installed}
 use Rattle.ledger.specs.Orderly.{Tidy}
 use Rattle.ledger.proofs.Actives.{Keeps, joined-keeps, least-le, least-each, all-changed-same, all-two}
 use Rattle.ledger.proofs.Sounds.{writes-keeps}
 use Rattle.ledger.proofs.Dates.{all-stamped, all-each}
-use Rattle.ledger.proofs.Deaths.{clear, Ages, dead-later, dead-reclaimed, present-tidy, horizon-opened, horizon-out, horizon-changed, horizon-installed, room-judged}
+use Rattle.ledger.proofs.Deaths.{clear, dead-later, dead-reclaimed, present-tidy, horizon-opened, horizon-out, horizon-changed, horizon-installed, room-judged}
 use Rattle.ledger.proofs.Ways.{Judges, standing, tidied, Way, refusing, beginning, reading, writing, closing, losing, committing, aborting, reclaiming}
 
 abbrev Trims : ℕ → List Transaction → Type 0

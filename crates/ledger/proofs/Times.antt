@@ -1,37 +1,34 @@
 -- Ticks are drawn one by one, and one that ended before another began stands earlier.
 use mathlib.Core.Path.{_≡_, refl, sym, ap, subst, _∙_}
 use mathlib.Core.List.{List, [], _∷_, _++_}
-use mathlib.Core.Bool.{Bool, true, false, cond, not, _&&_}
+use mathlib.Core.Bool.{Bool, true, false, cond, _&&_}
 use mathlib.Core.Logic.{_⊎_, inl, inr, ⊎-elim}
-use Prim.Native.Nat.{ℕ, zero, suc, _+_, _<_, _≤_}
+use Prim.Native.Nat.{ℕ, _+_, _≤_}
 use native.Mathlib.Omega.{arith}
 use native.Mathlib.Numerals.{add-one}
 use lib.Dec.{eqb}
 use Rattle.std.proofs.shelf.Lists.{append-assoc}
-use Rattle.std.proofs.shelf.Tests.{eqb-true, eqb-false, eq-eqb, ne-eqb, and-parts}
+use Rattle.std.proofs.shelf.Tests.{eqb-true, eq-eqb, ne-eqb, and-parts}
 use Rattle.std.specs.declared.option.Option.{Option}
 use Rattle.std.specs.declared.option.Option.the-variants.{Some, None}
-use Rattle.ledger.specs.declared.Kind.{Kind}
 use Rattle.ledger.specs.declared.Kind.the-variants.{Reader, Updater}
 use Rattle.ledger.specs.declared.Fault.{Fault}
 use Rattle.ledger.specs.declared.Verdict.{Verdict}
-use Rattle.ledger.specs.declared.Verdict.the-variants.{Closed, Restart, Spent, Full, Committed}
 use Rattle.ledger.specs.declared.Call.{Call}
 use Rattle.ledger.specs.declared.Call.the-variants.{Begin, Read, Write, Commit, Abort, Reclaim}
 use Rattle.ledger.specs.declared.Answer.{Answer}
-use Rattle.ledger.specs.declared.Answer.the-variants.{Began, Read as ReadDone, Wrote, Ended, Aborted, Reclaimed, Refused}
+use Rattle.ledger.specs.declared.Answer.the-variants.{Ended, Refused}
 use Rattle.ledger.specs.Ledger.{Limits, Transaction, Ledger, found}
-use Rattle.ledger.specs.Calls.{Outcome, step, without, joined, wrote}
-use Rattle.ledger.specs.Reach.{Reached}
+use Rattle.ledger.specs.Calls.{Outcome, without, joined, wrote}
 use Rattle.ledger.specs.Orderly.{Fine, Sound}
-use Rattle.ledger.specs.History.{Made, after, Told, accepted, began-at, committed-at, is, begins, ends-by, ends, own-handle, with-handle, placed, at-tick, stands-at}
-use Rattle.ledger.specs.Laws.{tick-in, drawn, down-from, Tick-law, Time-law}
-use Rattle.ledger.proofs.Actives.{Keeps, joined-keeps, all-found, found-start, none-changed, none-kept, none-without, never, some-same}
+use Rattle.ledger.specs.History.{Made, after, Told, accepted, began-at, committed-at, is-tick, ends-by, placed, at-tick, stands-at}
+use Rattle.ledger.specs.Laws.{tick-in, down-from, Tick-law, Time-law}
+use Rattle.ledger.proofs.Actives.{joined-keeps, all-found, found-start, none-changed, none-kept, none-without, never, some-same}
 use Rattle.ledger.proofs.Sounds.{writes-keeps}
 use Rattle.ledger.proofs.Orders.{sound, reached}
 use Rattle.ledger.proofs.Ways.{Judges, standing, tidied, Loses, restarts, spends, fills, Way, refusing, beginning, reading, writing, closing, losing, committing, aborting, reclaiming, way}
 use Rattle.ledger.proofs.Verdicts.{told-older}
-use Rattle.ledger.proofs.Histories.{serial}
+use Rattle.ledger.proofs.Histories.{within}
 
 -- Ticks
 
@@ -84,10 +81,10 @@ clock-newer : (n : Limits) (newer ms : List Made) → after n ms .clock ≤ afte
 clock-newer n [] ms = omega arith
 clock-newer n (m ∷ newer) ms = let l = after n (newer ++ ms) in omega (arith, clock-newer n newer ms, clock-after (way l (m .call) (m .given)))
 
-no-tick : {P : Type 0} (h : ℕ) (o : Option ℕ) → o ≡ None → is h o ≡ true → P
-no-tick h o e q = let z : _≡_ {A = ℕ} 0 1 = let r = ap (is h) e in cc in absurd (omega arith)
+no-tick : {P : Type 0} (h : ℕ) (o : Option ℕ) → o ≡ None → is-tick h o ≡ true → P
+no-tick h o e q = let z : _≡_ {A = ℕ} 0 1 = let r = ap (is-tick h) e in cc in absurd (omega arith)
 
-begins-next : {l : Ledger} {b : List ℕ} {c : Call} {o : Outcome} → Way l b c o → (h : ℕ) → is h (began-at (o .answer)) ≡ true → l .clock + 1 ≡ h
+begins-next : {l : Ledger} {b : List ℕ} {c : Call} {o : Outcome} → Way l b c o → (h : ℕ) → is-tick h (began-at (o .answer)) ≡ true → l .clock + 1 ≡ h
 begins-next (refusing f) h e = no-tick h None refl e
 begins-next (beginning few more) h e = eqb-true _ h e
 begins-next (reading t f inside fits room) h e = no-tick h None refl e
@@ -190,6 +187,18 @@ stands-late : (n : Limits) (ms : List Made) → Told n ms → (t h : ℕ) → st
 stands-late n [] told t h e = never h None refl e
 stands-late n (m ∷ ms) told t h e = ⊎-elim (λ p. placed-told n m ms told t h p .0) (λ q. stands-late n ms (told .2) t h q) (at-cases t h (placed (m .call) (m .answer)) (stands-at ms t) e)
 
+-- who is placed at a tick stands there for good
+pub stands-stay : (n : Limits) (newer older : List Made) (m : Made) (t h : ℕ) → Told n (newer ++ (m ∷ older)) → placed (m .call) (m .answer) ≡ Some (t, h) → stands-at (newer ++ (m ∷ older)) t ≡ Some h
+stands-stay n [] older m t h told e = ap (λ o. at-tick t o (stands-at older t)) e ∙ rw (eq-eqb t t refl)
+stands-stay n (x ∷ newer) older m t h told e = go (placed (x .call) (x .answer)) (placed-told n x (newer ++ (m ∷ older)) told) (stands-stay n newer older m t h (told .2) e)
+  where
+    go : (o : Option (ℕ × ℕ)) → Places (after n (newer ++ (m ∷ older))) o → stands-at (newer ++ (m ∷ older)) t ≡ Some h → at-tick t o (stands-at (newer ++ (m ∷ older)) t) ≡ Some h
+    go None later ih = ih
+    go (Some p) later ih =
+        let at = later (p .0) (p .1) refl .1 in
+        let le = within n (newer ++ (m ∷ older)) (told .2) t h ih .1 in
+        rw (ne-eqb (p .0) t (λ q. omega (arith, at, le))) ih
+
 -- a call that ends a transaction leaves it gone
 ended-gone : (l : Ledger) (ts : List Transaction) (h g : ℕ) (t : Transaction) → Sound l → found (l .active) h ≡ Some t → h ≡ g → (found (without ts h) g ≡ None) × (g ≤ l .clock)
 ended-gone l ts h g t s f e =
@@ -217,11 +226,11 @@ time n ms told newer between older e b g h s t parts ended began first second =
     let told-b = told-older n newer (b ∷ (between ++ (e ∷ older))) told′ in
     let told-e = told-older n between (e ∷ older) (told-b .2) in
     let gone : Gone (after n (e ∷ older)) g = ends-gone (sound (reached n older)) (way (after n older) (e .call) (e .given)) g (subst (λ a. (ends-by g (e .call) && accepted a) ≡ true) (told-e .0) ended) in
-    let at-b : after n (between ++ (e ∷ older)) .clock + 1 ≡ h = begins-next (way (after n (between ++ (e ∷ older))) (b .call) (b .given)) h (subst (λ a. is h (began-at a) ≡ true) (told-b .0) began) in
+    let at-b : after n (between ++ (e ∷ older)) .clock + 1 ≡ h = begins-next (way (after n (between ++ (e ∷ older))) (b .call) (b .given)) h (subst (λ a. is-tick h (began-at a) ≡ true) (told-b .0) began) in
     let front : List Made = newer ++ (b ∷ between) in
     let whole : ms ≡ front ++ (e ∷ older) = parts ∙ sym (append-assoc newer (b ∷ between) (e ∷ older)) in
     let before = stood-before n front (e ∷ older) g s (subst (Told n) whole told) gone (subst (λ xs. stands-at xs s ≡ Some g) whole first) .0 in
-    let le = serial n (e ∷ older) told-e .within s g before .1 in
+    let le = within n (e ∷ older) told-e s g before .1 in
     let up = clock-newer n between (e ∷ older) in
     let late = stands-late n ms told t h second in
     omega (arith, le, up, late, at-b)

@@ -4,26 +4,25 @@ use mathlib.Core.List.{List, [], _∷_, _++_}
 use mathlib.Core.Bool.{Bool, true, false, cond, not, _&&_}
 use Prim.Native.Nat.{ℕ, _+_, _-_, _<_, _≤_, max}
 use native.Mathlib.Omega.{arith}
-use lib.Dec.{leb, ltb, eqb}
+use lib.Dec.{ltb, eqb}
 use lib.ListN.{length}
 use Rattle.std.specs.shelf.Lists.{All}
 use Rattle.std.proofs.shelf.Tests.{ltb-true, ltb-false, le-ltb, cond-both}
 use Rattle.std.specs.declared.option.Option.{Option}
 use Rattle.std.specs.declared.option.Option.the-variants.{Some, None}
 use Rattle.ledger.specs.declared.Write.{Write as Entry}
-use Rattle.ledger.specs.declared.Verdict.{Verdict}
 use Rattle.ledger.specs.declared.Verdict.the-variants.{Closed, Restart, Spent, Full, Committed}
 use Rattle.ledger.specs.declared.Call.{Call}
 use Rattle.ledger.specs.declared.Call.the-variants.{Commit}
 use Rattle.ledger.specs.declared.Answer.{Answer}
-use Rattle.ledger.specs.declared.Answer.the-variants.{Ended, Refused}
-use Rattle.ledger.specs.Ledger.{Limits, Transaction, Version, Ledger, found, is-reader, horizon, dead, present-count, dead-count}
+use Rattle.ledger.specs.declared.Answer.the-variants.{Ended}
+use Rattle.ledger.specs.Ledger.{Limits, Transaction, Version, Ledger, found, is-reader, horizon, present-count, dead-count}
 use Rattle.ledger.specs.Calls.{Outcome, step, out-of-ticks, reclaimed, granule-stamp, first-clash, clash, read-keys, is-some, free, too-full, stamped, ended, installed, judged, judged-by, commit-by}
 use Rattle.ledger.specs.Reach.{Reached}
 use Rattle.ledger.specs.Orderly.{Tidy}
 use Rattle.ledger.specs.History.{Made, after, Told}
 use Rattle.ledger.specs.Clashes.{restart-of, full-of}
-use Rattle.ledger.specs.Laws.{newest-below, live-count, crowded, full-if-crowded, Full-law, Past-law, Stamp-law, Blind-law}
+use Rattle.ledger.specs.Laws.{newest-below, live-count, full-if-crowded, Full-law, Past-law, Stamp-law, Blind-law}
 use Rattle.ledger.proofs.Actives.{never, some-same, found-start}
 use Rattle.ledger.proofs.Deaths.{bare-clear, clash-same, below-same, live-and-dead, present-reclaimed, dead-count-reclaimed}
 use Rattle.ledger.proofs.Orders.{dated, tidy, reached}

@@ -1,6 +1,6 @@
 -- The ways that a call can go, each with what is known on it.
 use mathlib.Core.Path.{_≡_, refl}
-use mathlib.Core.List.{List, [], _∷_, _++_}
+use mathlib.Core.List.{List, _++_}
 use mathlib.Core.Bool.{Bool, true, false, cond, not, _&&_}
 use Prim.Native.Nat.{ℕ, _+_, _<_, _≤_}
 use lib.Dec.{leb, ltb}
@@ -15,7 +15,6 @@ use Rattle.ledger.specs.declared.Verdict.{Verdict}
 use Rattle.ledger.specs.declared.Verdict.the-variants.{Closed, Restart, Spent, Full, Committed}
 use Rattle.ledger.specs.declared.Call.{Call}
 use Rattle.ledger.specs.declared.Call.the-variants.{Begin, Read, Write, Commit, Abort, Reclaim}
-use Rattle.ledger.specs.declared.Answer.{Answer}
 use Rattle.ledger.specs.declared.Answer.the-variants.{Began, Read as ReadDone, Wrote, Ended, Aborted}
 use Rattle.ledger.specs.Ledger.{Transaction, Ledger, found, is-reader}
 use Rattle.ledger.specs.Calls.{Outcome, refused, with-active, without, changed, out-of-ticks, in-table, opened, seen, keys-from, joins, joined, read-by, no-room, wrote, write-by, reclaimed, reclaim-call, clash, free, too-full, ended, installed, judged, judged-by, commit-by, abort-by, step}

@@ -1,16 +1,16 @@
 -- Worked examples of the calls, as a club's engine answers them.
 use mathlib.Core.Path.{_≡_}
 use mathlib.Core.List.{List, [], _∷_}
-use Prim.Native.Nat.{ℕ, _/_}
+use Prim.Native.Nat.{ℕ, zero, suc, _+_, _/_}
 use Rattle.ledger.specs.declared.Kind.the-variants.{Reader, Updater}
-use Rattle.ledger.specs.declared.Fault.the-variants.{KeyOutside, NoTransaction}
+use Rattle.ledger.specs.declared.Fault.the-variants.{KeyOutside, ShortBuffer, NoTransaction, ReaderWrites, TooManyActive, ClockSpent, ReadListFull, WriteListFull}
 use Rattle.ledger.specs.declared.Verdict.the-variants.{Closed, Restart, Spent, Full, Committed}
 use Rattle.ledger.specs.declared.Call.{Call}
-use Rattle.ledger.specs.declared.Call.the-variants.{Begin, Read, Write, Commit, Reclaim}
+use Rattle.ledger.specs.declared.Call.the-variants.{Begin, Read, Write, Commit, Abort, Reclaim}
 use Rattle.ledger.specs.declared.Answer.{Answer}
-use Rattle.ledger.specs.declared.Answer.the-variants.{Began, Read as ReadDone, Wrote, Ended, Reclaimed, Refused}
-use Rattle.ledger.specs.Ledger.{Limits, Ledger, new-ledger}
-use Rattle.ledger.specs.Calls.{Outcome, step}
+use Rattle.ledger.specs.declared.Answer.the-variants.{Began, Read as ReadDone, Wrote, Ended, Aborted, Reclaimed, Refused}
+use Rattle.ledger.specs.Ledger.{Ledger, new-ledger, no-limits}
+use Rattle.ledger.specs.Calls.{step}
 
 -- one line of an example: the call, the buffer lent, the answer, and the buffer after
 pub record Line : Type 0 where
@@ -41,6 +41,21 @@ coarse = new-ledger (record { keys = 64; cells = 256; last = 4294967294; granule
 -- an updater that begins at the tick s writes x to key 0 and is committed at c
 abbrev pub handicap : ℕ → ℕ → ℕ → List Line → List Line
 handicap s x c more = asks (Begin Updater) (Began s) ∷ asks (Write s 0 x) Wrote ∷ asks (Commit s) (Ended (Committed c)) ∷ more
+
+-- so many readers begin at the ticks from s on
+abbrev pub crowd : ℕ → ℕ → List Line → List Line
+crowd zero s more = more
+crowd (suc n) s more = asks (Begin Reader) (Began s) ∷ crowd n (s + 1) more
+
+-- updater 1 reads so many keys from k on, each by itself
+abbrev pub browse : ℕ → ℕ → List Line → List Line
+browse zero k more = more
+browse (suc n) k more = reads (Read 1 k 1) (9 ∷ []) ReadDone (0 ∷ []) ∷ browse n (k + 1) more
+
+-- updater 1 writes to so many keys from k on
+abbrev pub fill : ℕ → ℕ → List Line → List Line
+fill zero k more = more
+fill (suc n) k more = asks (Write 1 k 7) Wrote ∷ fill n (k + 1) more
 
 -- a reader keeps seeing what stood at its start; an updater that read what has changed since is restarted
 abbrev pub listing : List Line
@@ -78,3 +93,15 @@ pub record Examples : Type 0 where
   pub far : Plays coarse (asks (Begin Updater) (Began 1) ∷ reads (Read 1 0 1) (9 ∷ []) ReadDone (0 ∷ []) ∷ asks (Begin Updater) (Began 2) ∷ asks (Write 2 4 7) Wrote ∷ asks (Commit 2) (Ended (Committed 3)) ∷ asks (Commit 1) (Ended (Committed 4)) ∷ [])
   -- an updater that read nothing is committed, though another wrote its key since
   pub blind : Plays (club 256 9) (asks (Begin Updater) (Began 1) ∷ asks (Write 1 5 7) Wrote ∷ asks (Begin Updater) (Began 2) ∷ asks (Write 2 5 8) Wrote ∷ asks (Commit 2) (Ended (Committed 3)) ∷ asks (Commit 1) (Ended (Committed 4)) ∷ [])
+  -- an updater sees its own write; what was committed before its start is no clash
+  pub later : Plays (club 256 9) (handicap 1 21 2 (asks (Begin Updater) (Began 3) ∷ reads (Read 3 0 1) (9 ∷ []) ReadDone (21 ∷ []) ∷ asks (Write 3 0 22) Wrote ∷ reads (Read 3 0 1) (9 ∷ []) ReadDone (22 ∷ []) ∷ asks (Commit 3) (Ended (Committed 4)) ∷ []))
+  -- sixteen are active
+  pub crowded : Plays (club 256 99) (crowd 16 1 (asks (Begin Updater) (Refused TooManyActive) ∷ []))
+  -- a read list of 32 takes no other range, but one that is there and one of no keys
+  pub browsed : Plays (club 256 99) (asks (Begin Updater) (Began 1) ∷ browse 32 0 (reads (Read 1 32 1) (9 ∷ []) (Refused (ReadListFull 1)) (9 ∷ []) ∷ browse 1 31 (asks (Read 1 40 0) ReadDone ∷ [])))
+  -- a write list of 32 takes no other key, but a key that is there
+  pub filled : Plays (club 256 99) (asks (Begin Updater) (Began 1) ∷ fill 32 0 (asks (Write 1 32 7) (Refused (WriteListFull 1)) ∷ fill 1 31 []))
+  -- the refusals of one transaction
+  pub refused : Plays (club 256 99) (asks (Begin Reader) (Began 1) ∷ asks (Write 1 0 7) (Refused (ReaderWrites 1)) ∷ reads (Read 1 0 2) (9 ∷ []) (Refused (ShortBuffer 1)) (9 ∷ []) ∷ asks (Begin Updater) (Began 2) ∷ asks (Write 2 64 7) (Refused (KeyOutside 64)) ∷ asks (Abort 2) Aborted ∷ asks (Abort 2) (Refused (NoTransaction 2)) ∷ [])
+  -- an engine that was set up wrongly
+  pub idle : Plays (new-ledger no-limits) (asks (Begin Reader) (Refused (ClockSpent 0)) ∷ asks (Read 1 0 0) (Refused (NoTransaction 1)) ∷ asks Reclaim (Reclaimed 0) ∷ [])

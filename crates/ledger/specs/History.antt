@@ -8,16 +8,14 @@ use lib.ListN.{take}
 use Rattle.std.specs.shelf.Lists.{kept-by, map}
 use Rattle.std.specs.declared.option.Option.{Option}
 use Rattle.std.specs.declared.option.Option.the-variants.{Some, None}
-use Rattle.ledger.specs.declared.Kind.{Kind}
 use Rattle.ledger.specs.declared.Kind.the-variants.{Reader, Updater}
-use Rattle.ledger.specs.declared.Verdict.{Verdict}
 use Rattle.ledger.specs.declared.Verdict.the-variants.{Closed, Restart, Spent, Full, Committed}
 use Rattle.ledger.specs.declared.Call.{Call}
 use Rattle.ledger.specs.declared.Call.the-variants.{Begin, Read, Write, Commit, Abort, Reclaim}
 use Rattle.ledger.specs.declared.Answer.{Answer}
 use Rattle.ledger.specs.declared.Answer.the-variants.{Began, Read as ReadDone, Wrote, Ended, Aborted, Reclaimed, Refused}
 use Rattle.ledger.specs.Ledger.{Limits, Ledger, new-ledger}
-use Rattle.ledger.specs.Calls.{Outcome, step}
+use Rattle.ledger.specs.Calls.{step}
 
 -- one call made: the caller's buffer before it, its answer, and the buffer after it
 pub record Made : Type 0 where
@@ -109,13 +107,13 @@ committed-at Aborted = None
 committed-at (Reclaimed n) = None
 committed-at (Refused f) = None
 
-abbrev pub is : ℕ → Option ℕ → Bool
-is t None = false
-is t (Some s) = eqb s t
+abbrev pub is-tick : ℕ → Option ℕ → Bool
+is-tick t None = false
+is-tick t (Some s) = eqb s t
 
 -- the call began the transaction h
 abbrev pub begins : ℕ → Made → Bool
-begins h m = is h (began-at (m .answer))
+begins h m = is-tick h (began-at (m .answer))
 
 abbrev pub ends-by : ℕ → Call → Bool
 ends-by h (Begin kind) = false
@@ -131,7 +129,7 @@ ends h m = ends-by h (m .call) && accepted (m .answer)
 
 abbrev pub begins-updater : ℕ → Call → Answer → Bool
 begins-updater h (Begin Reader) a = false
-begins-updater h (Begin Updater) a = is h (began-at a)
+begins-updater h (Begin Updater) a = is-tick h (began-at a)
 begins-updater h (Read g k n) a = false
 begins-updater h (Write g k x) a = false
 begins-updater h (Commit g) a = false

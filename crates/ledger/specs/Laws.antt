@@ -9,15 +9,17 @@ use Rattle.std.specs.shelf.Lists.{kept-by}
 use Rattle.std.specs.declared.option.Option.{Option}
 use Rattle.std.specs.declared.option.Option.the-variants.{Some, None}
 use Rattle.ledger.specs.declared.Call.{Call}
-use Rattle.ledger.specs.declared.Call.the-variants.{Commit}
-use Rattle.ledger.specs.declared.Verdict.the-variants.{Restart, Committed, Closed, Spent, Full}
+use Rattle.ledger.specs.declared.Call.the-variants.{Begin, Read, Write, Commit, Abort, Reclaim}
+use Rattle.ledger.specs.declared.Fault.{Fault}
+use Rattle.ledger.specs.declared.Fault.the-variants.{NoTransaction, ClockSpent}
+use Rattle.ledger.specs.declared.Verdict.the-variants.{Restart}
 use Rattle.ledger.specs.declared.Answer.{Answer}
-use Rattle.ledger.specs.declared.Answer.the-variants.{Began, Read as ReadDone, Wrote, Ended, Aborted, Reclaimed, Refused}
+use Rattle.ledger.specs.declared.Answer.the-variants.{Ended, Reclaimed, Refused}
 use Rattle.ledger.specs.Ledger.{Limits, Transaction, Version, Ledger, found, is-reader, dead, newest-value}
-use Rattle.ledger.specs.Calls.{Outcome, step, reclaimed, clash, out-of-ticks, is-some}
+use Rattle.ledger.specs.Calls.{step, reclaimed, clash, out-of-ticks, is-some}
 use Rattle.ledger.specs.Reach.{Reached}
 use Rattle.ledger.specs.Orderly.{Orderly}
-use Rattle.ledger.specs.History.{Made, after, Told, accepted, acts, saw, began-at, committed-at, begins, ends, updater-in, stands-at, others, asked}
+use Rattle.ledger.specs.History.{Made, after, Told, accepted, acts, saw, began-at, committed-at, begins, ends, updater-in, placed, stands-at, others, asked}
 use Rattle.ledger.specs.Serial.{run-reads, table}
 use Rattle.ledger.specs.Clashes.{keys-read, first-struck, restart-of, full-of}
 
@@ -25,8 +27,12 @@ use Rattle.ledger.specs.Clashes.{keys-read, first-struck, restart-of, full-of}
 
 -- Serial: every transaction in the order reads what it would read running alone in its place, and newest is what they leave.
 pub record Serial (n : Limits) (ms : List Made) (newest : ℕ → ℕ) : Type 0 where
+  -- whom a call places at a tick stands there, and no one stands elsewhere
+  pub stands : (newer older : List Made) (m : Made) (t h : ℕ) → ms ≡ newer ++ (m ∷ older) → placed (m .call) (m .answer) ≡ Some (t, h) → stands-at ms t ≡ Some h
   pub within : (t h : ℕ) → stands-at ms t ≡ Some h → (0 < t) × (t ≤ after n ms .clock)
+  -- run on the table as the ticks before leave it, its reads give what they left in the callers' buffers
   pub reads : (t h : ℕ) → stands-at ms (suc t) ≡ Some h → run-reads (acts h ms) (table ms t) ≡ saw h ms
+  -- after the last tick the table has each key's newest value
   pub newest-is : (k : ℕ) → k < n .keys → newest k ≡ table ms (after n ms .clock) k
 
 -- Time: one that ended before another began stands earlier.
@@ -122,6 +128,23 @@ Order-law = (l : Ledger) → Reached l → Orderly l
 -- what is dead stays dead
 abbrev pub Death-law : Type 0
 Death-law = (l : Ledger) → Reached l → (c : Call) (b : List ℕ) (v : Version) → dead l v ≡ true → dead (step l c b .ledger) v ≡ true
+
+-- a refused call leaves ledger and buffer as they were
+abbrev pub Refusal-law : Type 0
+Refusal-law = (l : Ledger) (c : Call) (b : List ℕ) (f : Fault) → step l c b .answer ≡ Refused f → (step l c b .ledger ≡ l) × (step l c b .buffer ≡ b)
+
+-- what a ledger without ticks answers, as that of an engine set up wrongly is
+abbrev pub idle-answer : Call → Answer
+idle-answer (Begin kind) = Refused (ClockSpent 0)
+idle-answer (Read h k n) = Refused (NoTransaction h)
+idle-answer (Write h k x) = Refused (NoTransaction h)
+idle-answer (Commit h) = Refused (NoTransaction h)
+idle-answer (Abort h) = Refused (NoTransaction h)
+idle-answer Reclaim = Reclaimed 0
+
+-- without a tick nothing ever begins
+abbrev pub Idle-law : Type 0
+Idle-law = (l : Ledger) → Reached l → l .limits .last ≡ 0 → (c : Call) (b : List ℕ) → (step l c b .answer ≡ idle-answer c) × (step l c b .buffer ≡ b) × (step l c b .ledger .active ≡ []) × (step l c b .ledger .versions ≡ [])
 
 -- the stamp and the value of the newest version of a key stamped below a tick
 abbrev pub newest-below : ℕ → ℕ → List Version → Option (ℕ × ℕ)

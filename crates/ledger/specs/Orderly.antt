@@ -5,7 +5,6 @@ use mathlib.Core.Bool.{true, false}
 use Prim.Native.Nat.{ℕ, _+_, _≤_, _<_}
 use lib.ListN.{length}
 use Rattle.std.specs.shelf.Lists.{All}
-use Rattle.ledger.specs.declared.Range.{Range}
 use Rattle.ledger.specs.declared.Write.{Write}
 use Rattle.ledger.specs.Ledger.{Limits, Transaction, Version, Ledger, is-reader, dead, present-count}
 

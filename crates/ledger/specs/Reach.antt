@@ -3,7 +3,7 @@ use mathlib.Core.List.{List}
 use Prim.Native.Nat.{ℕ}
 use Rattle.ledger.specs.declared.Call.{Call}
 use Rattle.ledger.specs.Ledger.{Limits, Ledger, new-ledger}
-use Rattle.ledger.specs.Calls.{Outcome, step}
+use Rattle.ledger.specs.Calls.{step}
 
 pub data Reached : Ledger → Type 0 where
   made : (n : Limits) → Reached (new-ledger n)

@@ -1,6 +1,6 @@
 // The laws of the calls, each the contract of a function: it is proved, or the crate is not.
 ghost use Rattle.ledger.specs.Examples.{Examples};
-ghost use Rattle.ledger.specs.Laws.{Law, Serial-law, Time-law, Reclaim-law, Restart-law, Full-law, Tick-law, Order-law, Death-law, Past-law, Verdict-law, Stamp-law, Blind-law};
+ghost use Rattle.ledger.specs.Laws.{Law, Serial-law, Time-law, Reclaim-law, Restart-law, Full-law, Tick-law, Order-law, Death-law, Refusal-law, Idle-law, Past-law, Verdict-law, Stamp-law, Blind-law};
 
 // The worked examples.
 pub fn examples_hold() -> u8
@@ -67,6 +67,20 @@ pub fn every_ledger_is_orderly() -> u8
 
 pub fn the_dead_stay_dead() -> u8
     ensures { λ _. ⌜ Death-law ⌝ }
+{
+    0
+}
+
+// A refused call leaves ledger and buffer as they were.
+pub fn refusals_change_nothing() -> u8
+    ensures { λ _. ⌜ Refusal-law ⌝ }
+{
+    0
+}
+
+// A ledger without ticks, as that of an engine set up wrongly, refuses all but a reclaim of nothing.
+pub fn nothing_begins_without_ticks() -> u8
+    ensures { λ _. ⌜ Idle-law ⌝ }
 {
     0
 }

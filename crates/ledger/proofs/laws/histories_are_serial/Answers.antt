@@ -1,4 +1,4 @@
-use Rattle.ledger.proofs.Histories.{serial}
+use Rattle.ledger.proofs.Whole.{serial}
 use Rattle.ledger.proofs.laws.histories_are_serial.Needs as need
 
 pub returns : need.returns
