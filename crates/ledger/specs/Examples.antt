@@ -11,22 +11,18 @@ use Rattle.ledger.specs.declared.Answer.{Answer}
 use Rattle.ledger.specs.declared.Answer.the-variants.{Began, Read as ReadDone, Wrote, Ended, Aborted, Reclaimed, Refused}
 use Rattle.ledger.specs.Ledger.{Ledger, new-ledger, no-limits}
 use Rattle.ledger.specs.Calls.{step}
+use Rattle.ledger.specs.History.{Made}
 
--- one line of an example: the call, the buffer lent, the answer, and the buffer after
-pub record Line : Type 0 where
-  pub call : Call
-  pub given : List ℕ
-  pub answer : Answer
-  pub left : List ℕ
-
-abbrev pub asks : Call → Answer → Line
+-- a call made with an empty buffer
+abbrev pub asks : Call → Answer → Made
 asks c a = record { call = c; given = []; answer = a; left = [] }
 
-abbrev pub reads : Call → List ℕ → Answer → List ℕ → Line
+-- a call made with a buffer
+abbrev pub reads : Call → List ℕ → Answer → List ℕ → Made
 reads c b a x = record { call = c; given = b; answer = a; left = x }
 
--- the ledger answers each line so, one after another
-abbrev pub Plays : Ledger → List Line → Type 0
+-- made one after another, the first in front, the ledger answers each so
+abbrev pub Plays : Ledger → List Made → Type 0
 Plays l [] = Unit {0}
 Plays l (m ∷ ms) = (step l (m .call) (m .given) .answer ≡ m .answer) × (step l (m .call) (m .given) .buffer ≡ m .left) × Plays (step l (m .call) (m .given) .ledger) ms
 
@@ -39,26 +35,26 @@ abbrev pub coarse : Ledger
 coarse = new-ledger (record { keys = 64; cells = 256; last = 4294967294; granule = λ k. k / 4 })
 
 -- an updater that begins at the tick s writes x to key 0 and is committed at c
-abbrev pub handicap : ℕ → ℕ → ℕ → List Line → List Line
+abbrev pub handicap : ℕ → ℕ → ℕ → List Made → List Made
 handicap s x c more = asks (Begin Updater) (Began s) ∷ asks (Write s 0 x) Wrote ∷ asks (Commit s) (Ended (Committed c)) ∷ more
 
 -- so many readers begin at the ticks from s on
-abbrev pub crowd : ℕ → ℕ → List Line → List Line
+abbrev pub crowd : ℕ → ℕ → List Made → List Made
 crowd zero s more = more
 crowd (suc n) s more = asks (Begin Reader) (Began s) ∷ crowd n (s + 1) more
 
 -- updater 1 reads so many keys from k on, each by itself
-abbrev pub browse : ℕ → ℕ → List Line → List Line
+abbrev pub browse : ℕ → ℕ → List Made → List Made
 browse zero k more = more
 browse (suc n) k more = reads (Read 1 k 1) (9 ∷ []) ReadDone (0 ∷ []) ∷ browse n (k + 1) more
 
 -- updater 1 writes to so many keys from k on
-abbrev pub fill : ℕ → ℕ → List Line → List Line
+abbrev pub fill : ℕ → ℕ → List Made → List Made
 fill zero k more = more
 fill (suc n) k more = asks (Write 1 k 7) Wrote ∷ fill n (k + 1) more
 
 -- a reader keeps seeing what stood at its start; an updater that read what has changed since is restarted
-abbrev pub listing : List Line
+abbrev pub listing : List Made
 listing =
     asks (Begin Updater) (Began 1)
     ∷ asks (Write 1 5 54) Wrote
