@@ -73,31 +73,120 @@ listing =
     ∷ reads (Read 5 64 1) (9 ∷ 9 ∷ []) (Refused (KeyOutside 64)) (9 ∷ 9 ∷ [])
     ∷ []
 
+-- the begin takes the only tick
+abbrev pub only-tick : List Made
+only-tick =
+    asks (Begin Updater) (Began 1)
+    ∷ asks (Commit 1) (Ended Spent)
+    ∷ []
+
+-- two writes for one cell
+abbrev pub one-cell : List Made
+one-cell =
+    asks (Begin Updater) (Began 1)
+    ∷ asks (Write 1 0 7) Wrote
+    ∷ asks (Write 1 1 8) Wrote
+    ∷ asks (Commit 1) (Ended (Full 2 1))
+    ∷ []
+
+-- two cells; without a reader the version before the last is dead, and its cell is had by a reclaim
+abbrev pub reclaims-first : List Made
+reclaims-first = handicap 1 21 2 (handicap 3 22 4 (handicap 5 23 6 []))
+
+-- two cells; a reader that began between two versions keeps both
+abbrev pub reader-keeps : List Made
+reader-keeps =
+    handicap 1 21 2
+    (asks (Begin Reader) (Began 3)
+    ∷ handicap 4 22 5
+    (asks (Begin Updater) (Began 6)
+    ∷ asks (Write 6 0 23) Wrote
+    ∷ asks (Commit 6) (Ended (Full 1 0))
+    ∷ []))
+
+-- updater 1 reads key 0, then another commits a write to the key k
+abbrev pub meanwhile : ℕ → Answer → List Made
+meanwhile k a =
+    asks (Begin Updater) (Began 1)
+    ∷ reads (Read 1 0 1) (9 ∷ []) ReadDone (0 ∷ [])
+    ∷ asks (Begin Updater) (Began 2)
+    ∷ asks (Write 2 k 7) Wrote
+    ∷ asks (Commit 2) (Ended (Committed 3))
+    ∷ asks (Commit 1) a
+    ∷ []
+
+-- an updater that read nothing is committed, though another wrote its key since it began
+abbrev pub read-nothing : List Made
+read-nothing =
+    asks (Begin Updater) (Began 1)
+    ∷ asks (Write 1 5 7) Wrote
+    ∷ asks (Begin Updater) (Began 2)
+    ∷ asks (Write 2 5 8) Wrote
+    ∷ asks (Commit 2) (Ended (Committed 3))
+    ∷ asks (Commit 1) (Ended (Committed 4))
+    ∷ []
+
+-- an updater sees its own write; what was committed before it began is no clash
+abbrev pub own-write-seen : List Made
+own-write-seen =
+    handicap 1 21 2
+    (asks (Begin Updater) (Began 3)
+    ∷ reads (Read 3 0 1) (9 ∷ []) ReadDone (21 ∷ [])
+    ∷ asks (Write 3 0 22) Wrote
+    ∷ reads (Read 3 0 1) (9 ∷ []) ReadDone (22 ∷ [])
+    ∷ asks (Commit 3) (Ended (Committed 4))
+    ∷ [])
+
+-- sixteen are active
+abbrev pub all-sixteen : List Made
+all-sixteen = crowd 16 1 (asks (Begin Updater) (Refused TooManyActive) ∷ [])
+
+-- a read list of 32 takes no other range; one that is there, and one of no keys, need not join it
+abbrev pub read-list-full : List Made
+read-list-full =
+    asks (Begin Updater) (Began 1)
+    ∷ browse 32 0
+    (reads (Read 1 32 1) (9 ∷ []) (Refused (ReadListFull 1)) (9 ∷ [])
+    ∷ browse 1 31 (asks (Read 1 40 0) ReadDone ∷ []))
+
+-- a write list of 32 takes no other key; one that is there gets its new value
+abbrev pub write-list-full : List Made
+write-list-full =
+    asks (Begin Updater) (Began 1)
+    ∷ fill 32 0 (asks (Write 1 32 7) (Refused (WriteListFull 1)) ∷ fill 1 31 [])
+
+abbrev pub refusals : List Made
+refusals =
+    asks (Begin Reader) (Began 1)
+    ∷ asks (Write 1 0 7) (Refused (ReaderWrites 1))
+    ∷ reads (Read 1 0 2) (9 ∷ []) (Refused (ShortBuffer 1)) (9 ∷ [])
+    ∷ asks (Begin Updater) (Began 2)
+    ∷ asks (Write 2 64 7) (Refused (KeyOutside 64))
+    ∷ asks (Abort 2) Aborted
+    ∷ asks (Abort 2) (Refused (NoTransaction 2))
+    ∷ []
+
+-- an engine that was set up wrongly
+abbrev pub set-up-wrongly : List Made
+set-up-wrongly =
+    asks (Begin Reader) (Refused (ClockSpent 0))
+    ∷ asks (Read 1 0 0) (Refused (NoTransaction 1))
+    ∷ asks Reclaim (Reclaimed 0)
+    ∷ []
+
 pub record Examples : Type 0 where
   pub an-afternoon : Plays (club 256 4294967294) listing
-  -- the begin takes the only tick
-  pub spent : Plays (club 256 1) (asks (Begin Updater) (Began 1) ∷ asks (Commit 1) (Ended Spent) ∷ [])
-  -- two writes into one cell
-  pub full : Plays (club 1 9) (asks (Begin Updater) (Began 1) ∷ asks (Write 1 0 7) Wrote ∷ asks (Write 1 1 8) Wrote ∷ asks (Commit 1) (Ended (Full 2 1)) ∷ [])
-  -- without a reader the version before the last is dead, and its cell is had by a reclaim
-  pub made-room : Plays (club 2 9) (handicap 1 21 2 (handicap 3 22 4 (handicap 5 23 6 [])))
-  -- a reader that began between them keeps both
-  pub kept : Plays (club 2 9) (handicap 1 21 2 (asks (Begin Reader) (Began 3) ∷ handicap 4 22 5 (asks (Begin Updater) (Began 6) ∷ asks (Write 6 0 23) Wrote ∷ asks (Commit 6) (Ended (Full 1 0)) ∷ [])))
-  -- key 3 is in the granule of key 0
-  pub near : Plays coarse (asks (Begin Updater) (Began 1) ∷ reads (Read 1 0 1) (9 ∷ []) ReadDone (0 ∷ []) ∷ asks (Begin Updater) (Began 2) ∷ asks (Write 2 3 7) Wrote ∷ asks (Commit 2) (Ended (Committed 3)) ∷ asks (Commit 1) (Ended (Restart 0 3)) ∷ [])
-  -- key 4 is not
-  pub far : Plays coarse (asks (Begin Updater) (Began 1) ∷ reads (Read 1 0 1) (9 ∷ []) ReadDone (0 ∷ []) ∷ asks (Begin Updater) (Began 2) ∷ asks (Write 2 4 7) Wrote ∷ asks (Commit 2) (Ended (Committed 3)) ∷ asks (Commit 1) (Ended (Committed 4)) ∷ [])
-  -- an updater that read nothing is committed, though another wrote its key since
-  pub blind : Plays (club 256 9) (asks (Begin Updater) (Began 1) ∷ asks (Write 1 5 7) Wrote ∷ asks (Begin Updater) (Began 2) ∷ asks (Write 2 5 8) Wrote ∷ asks (Commit 2) (Ended (Committed 3)) ∷ asks (Commit 1) (Ended (Committed 4)) ∷ [])
-  -- an updater sees its own write; what was committed before its start is no clash
-  pub later : Plays (club 256 9) (handicap 1 21 2 (asks (Begin Updater) (Began 3) ∷ reads (Read 3 0 1) (9 ∷ []) ReadDone (21 ∷ []) ∷ asks (Write 3 0 22) Wrote ∷ reads (Read 3 0 1) (9 ∷ []) ReadDone (22 ∷ []) ∷ asks (Commit 3) (Ended (Committed 4)) ∷ []))
-  -- sixteen are active
-  pub crowded : Plays (club 256 99) (crowd 16 1 (asks (Begin Updater) (Refused TooManyActive) ∷ []))
-  -- a read list of 32 takes no other range, but one that is there and one of no keys
-  pub browsed : Plays (club 256 99) (asks (Begin Updater) (Began 1) ∷ browse 32 0 (reads (Read 1 32 1) (9 ∷ []) (Refused (ReadListFull 1)) (9 ∷ []) ∷ browse 1 31 (asks (Read 1 40 0) ReadDone ∷ [])))
-  -- a write list of 32 takes no other key, but a key that is there
-  pub filled : Plays (club 256 99) (asks (Begin Updater) (Began 1) ∷ fill 32 0 (asks (Write 1 32 7) (Refused (WriteListFull 1)) ∷ fill 1 31 []))
-  -- the refusals of one transaction
-  pub refused : Plays (club 256 99) (asks (Begin Reader) (Began 1) ∷ asks (Write 1 0 7) (Refused (ReaderWrites 1)) ∷ reads (Read 1 0 2) (9 ∷ []) (Refused (ShortBuffer 1)) (9 ∷ []) ∷ asks (Begin Updater) (Began 2) ∷ asks (Write 2 64 7) (Refused (KeyOutside 64)) ∷ asks (Abort 2) Aborted ∷ asks (Abort 2) (Refused (NoTransaction 2)) ∷ [])
-  -- an engine that was set up wrongly
-  pub idle : Plays (new-ledger no-limits) (asks (Begin Reader) (Refused (ClockSpent 0)) ∷ asks (Read 1 0 0) (Refused (NoTransaction 1)) ∷ asks Reclaim (Reclaimed 0) ∷ [])
+  pub spent : Plays (club 256 1) only-tick
+  pub full : Plays (club 1 9) one-cell
+  pub made-room : Plays (club 2 9) reclaims-first
+  pub kept : Plays (club 2 9) reader-keeps
+  -- key 3 is in the granule of key 0, key 4 is not
+  pub near : Plays coarse (meanwhile 3 (Ended (Restart 0 3)))
+  pub far : Plays coarse (meanwhile 4 (Ended (Committed 4)))
+  pub blind : Plays (club 256 9) read-nothing
+  pub later : Plays (club 256 9) own-write-seen
+  pub crowded : Plays (club 256 99) all-sixteen
+  pub browsed : Plays (club 256 99) read-list-full
+  pub filled : Plays (club 256 99) write-list-full
+  pub refused : Plays (club 256 99) refusals
+  pub idle : Plays (new-ledger no-limits) set-up-wrongly

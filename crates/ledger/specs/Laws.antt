@@ -28,7 +28,8 @@ use Rattle.ledger.specs.Clashes.{keys-read, first-struck, restart-of, full-of}
 -- Serial: every transaction in the order reads what it would read running alone in its place, and newest is what they leave.
 pub record Serial (n : Limits) (ms : List Made) (newest : ℕ → ℕ) : Type 0 where
   -- whom a call places at a tick stands there, and no one stands elsewhere
-  pub stands : (newer older : List Made) (m : Made) (t h : ℕ) → ms ≡ newer ++ (m ∷ older) → placed (m .call) (m .answer) ≡ Some (t, h) → stands-at ms t ≡ Some h
+  pub stands : (newer older : List Made) (m : Made) (t h : ℕ)
+      → ms ≡ newer ++ (m ∷ older) → placed (m .call) (m .answer) ≡ Some (t, h) → stands-at ms t ≡ Some h
   pub within : (t h : ℕ) → stands-at ms t ≡ Some h → (0 < t) × (t ≤ after n ms .clock)
   -- run on the table as the ticks before leave it, its reads give what they left in the callers' buffers
   pub reads : (t h : ℕ) → stands-at ms (suc t) ≡ Some h → run-reads (acts h ms) (table ms t) ≡ saw h ms
@@ -127,11 +128,13 @@ Order-law = (l : Ledger) → Reached l → Orderly l
 
 -- what is dead stays dead
 abbrev pub Death-law : Type 0
-Death-law = (l : Ledger) → Reached l → (c : Call) (b : List ℕ) (v : Version) → dead l v ≡ true → dead (step l c b .ledger) v ≡ true
+Death-law = (l : Ledger) → Reached l → (c : Call) (b : List ℕ) (v : Version)
+    → dead l v ≡ true → dead (step l c b .ledger) v ≡ true
 
 -- a refused call leaves ledger and buffer as they were
 abbrev pub Refusal-law : Type 0
-Refusal-law = (l : Ledger) (c : Call) (b : List ℕ) (f : Fault) → step l c b .answer ≡ Refused f → (step l c b .ledger ≡ l) × (step l c b .buffer ≡ b)
+Refusal-law = (l : Ledger) (c : Call) (b : List ℕ) (f : Fault)
+    → step l c b .answer ≡ Refused f → (step l c b .ledger ≡ l) × (step l c b .buffer ≡ b)
 
 -- what a ledger without ticks answers, as that of an engine set up wrongly is
 abbrev pub idle-answer : Call → Answer
@@ -144,7 +147,8 @@ idle-answer Reclaim = Reclaimed 0
 
 -- without a tick nothing ever begins
 abbrev pub Idle-law : Type 0
-Idle-law = (l : Ledger) → Reached l → l .limits .last ≡ 0 → (c : Call) (b : List ℕ) → (step l c b .answer ≡ idle-answer c) × (step l c b .buffer ≡ b) × (step l c b .ledger .active ≡ []) × (step l c b .ledger .versions ≡ [])
+Idle-law = (l : Ledger) → Reached l → l .limits .last ≡ 0 → (c : Call) (b : List ℕ)
+    → (step l c b .answer ≡ idle-answer c) × (step l c b .buffer ≡ b) × (step l c b .ledger .active ≡ []) × (step l c b .ledger .versions ≡ [])
 
 -- the stamp and the value of the newest version of a key stamped below a tick
 abbrev pub newest-below : ℕ → ℕ → List Version → Option (ℕ × ℕ)
@@ -153,16 +157,20 @@ newest-below k t (v ∷ vs) = cond (eqb (v .key) k && ltb (v .stamp) t) (Some (v
 
 -- once every tick below t is drawn, the newest version below t never changes
 abbrev pub Past-law : Type 0
-Past-law = (l : Ledger) → Reached l → (c : Call) (b : List ℕ) (k t : ℕ) → t ≤ l .clock + 1 → newest-below k t (step l c b .ledger .versions) ≡ newest-below k t (l .versions)
+Past-law = (l : Ledger) → Reached l → (c : Call) (b : List ℕ) (k t : ℕ)
+    → t ≤ l .clock + 1 → newest-below k t (step l c b .ledger .versions) ≡ newest-below k t (l .versions)
 
 -- no verdict depends on the reclaims made, full among them
 abbrev pub Verdict-law : Type 0
-Verdict-law = (l : Ledger) → Reached l → (h : ℕ) (b : List ℕ) → step (reclaimed l) (Commit h) b .answer ≡ step l (Commit h) b .answer
+Verdict-law = (l : Ledger) → Reached l → (h : ℕ) (b : List ℕ)
+    → step (reclaimed l) (Commit h) b .answer ≡ step l (Commit h) b .answer
 
 -- a restart names a stamp above its transaction's start, of a tick drawn
 abbrev pub Stamp-law : Type 0
-Stamp-law = (l : Ledger) → Reached l → (h k s : ℕ) (b : List ℕ) → step l (Commit h) b .answer ≡ Ended (Restart k s) → (h < s) × (s ≤ l .clock)
+Stamp-law = (l : Ledger) → Reached l → (h k s : ℕ) (b : List ℕ)
+    → step l (Commit h) b .answer ≡ Ended (Restart k s) → (h < s) × (s ≤ l .clock)
 
 -- an updater that read nothing is never restarted
 abbrev pub Blind-law : Type 0
-Blind-law = (l : Ledger) → Reached l → (h k s : ℕ) (b : List ℕ) (t : Transaction) → found (l .active) h ≡ Some t → t .reads ≡ [] → step l (Commit h) b .answer ≡ Ended (Restart k s) → ⊥
+Blind-law = (l : Ledger) → Reached l → (h k s : ℕ) (b : List ℕ) (t : Transaction)
+    → found (l .active) h ≡ Some t → t .reads ≡ [] → step l (Commit h) b .answer ≡ Ended (Restart k s) → ⊥
