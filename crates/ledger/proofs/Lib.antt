@@ -1,0 +1,15 @@
+pub mod Ways
+pub mod Actives
+pub mod Sounds
+pub mod Deaths
+pub mod Dates
+pub mod Tidies
+pub mod Orders
+pub mod Reclaims
+pub mod Verdicts
+pub mod Stories
+pub mod Serials
+pub mod Histories
+pub mod Times
+pub mod Restarts
+pub mod Whole

@@ -1,0 +1,10 @@
+pub mod Ledger
+pub mod Calls
+pub mod Faults
+pub mod Reach
+pub mod Orderly
+pub mod History
+pub mod Serial
+pub mod Clashes
+pub mod Laws
+pub mod Examples
