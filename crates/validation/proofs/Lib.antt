@@ -1,0 +1,4 @@
+mod Answering
+mod Fronts
+mod Recents
+mod Tables

@@ -2,6 +2,9 @@ ghost use mathlib.Core.Path.{_≡_};
 ghost use Rattle.validation.specs.Meaning.{Meaning, Lawful, granuleAnswer, clashAnswer, noteAnswer, noted, trimmed, latest};
 use crate::fault::ValidatorFault;
 
+/// The most keys that a validator has.
+pub const MAX_KEYS: u16 = 1024;
+
 /// A number of keys, a granule for each key, and for each granule the stamp that was noted last.
 pub trait Validator {
     ghost meaning: { Self → Meaning };
