@@ -1,0 +1,7 @@
+mod Tallies
+mod Chains
+mod Holdings
+mod Adds
+mod Prunes
+mod Facts
+mod Setups
