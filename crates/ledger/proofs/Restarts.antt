@@ -389,7 +389,7 @@ clash-said n ms h t told f r g =
     ∙ ap (λ x. cond x (Some (k, commit-into g k ms)) None) (sym (o .since g k)) in
     clash-first g (l .versions) (t .start) (read-keys (t .reads)) ∙ sym (o .reads r F) ∙ first-same F G each (keys-read (acts h ms)) ∙ sym (struck-first g ms h (keys-read (acts h ms)))
 
-same-limits : (n : Limits) (ms : List Made) → after n ms .limits ≡ n
+pub same-limits : (n : Limits) (ms : List Made) → after n ms .limits ≡ n
 same-limits n [] = refl
 same-limits n (m ∷ ms) = limits-after (way (after n ms) (m .call) (m .given)) ∙ same-limits n ms
   where

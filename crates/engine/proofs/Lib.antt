@@ -1,0 +1,16 @@
+pub mod Shuffles
+pub mod Slots
+pub mod Writes
+pub mod Chains
+pub mod Fittings
+pub mod Fills
+pub mod Takings
+pub mod SetUps
+pub mod Goings
+pub mod Replayings
+pub mod Reclaims
+pub mod Installs
+pub mod Validations
+pub mod Turns
+pub mod Reclaimings
+pub mod Commits

@@ -1,0 +1,11 @@
+pub mod View
+pub mod Notes
+pub mod Places
+pub mod Shows
+pub mod Shuffle
+pub mod Fits
+pub mod SetUp
+pub mod Endings
+pub mod Verdicts
+pub mod Serves
+pub mod Replays
