@@ -1,2 +1,3 @@
+mod Makings
+mod Means
 mod Texts
-mod Fills

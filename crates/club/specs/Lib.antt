@@ -1,3 +1,3 @@
-pub mod Days
-pub mod Faults
+pub mod Indexes
 pub mod Lines
+pub mod Transactions

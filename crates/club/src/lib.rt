@@ -1,5 +1,5 @@
-//! A club's afternoon: its events, told by lines of text, and what they do to the club's store.
-pub mod day;
+//! A club's afternoon: its events, told by lines of text, and the transactions that they are made of.
 pub mod event;
-pub mod fault;
+pub mod index;
 pub mod line;
+pub mod transactions;

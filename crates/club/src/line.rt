@@ -1,7 +1,7 @@
 ghost use mathlib.Core.Path.{_≡_};
 ghost use Prim.Native.Nat.{ℕ, _≤_};
 ghost use Rattle.std.specs.Slices.{found};
-ghost use Rattle.club.specs.Lines.{word, behind, number, card, tick, same, verb, event};
+ghost use Rattle.club.specs.Lines.{word, behind, number, short, handle, card, rounds, same, verb, plain, event};
 use crate::event::Event;
 
 /// The first word of a line, up to a space, and what follows that space.
@@ -39,22 +39,42 @@ fn parse_number(digits: &[u8], most: u64) -> Option<u64>
     Some(value)
 }
 
+/// A number of 16 bits, as a key or a count.
+fn parse_short(digits: &[u8]) -> Option<u16>
+    ensures { λ r. ⌜ r ≡ short (now (digits .entry)) ⌝ }
+{
+    let number = parse_number(digits, 65_535)?;
+    Some(number as u16)
+}
+
+/// A number of 32 bits: a handle.
+fn parse_handle(digits: &[u8]) -> Option<u32>
+    ensures { λ r. ⌜ r ≡ handle (now (digits .entry)) ⌝ }
+{
+    let number = parse_number(digits, 4_294_967_295)?;
+    Some(number as u32)
+}
+
 /// A key and a value.
 fn parse_card(args: &[u8]) -> Option<(u16, u64)>
     ensures { λ r. ⌜ r ≡ card (now (args .entry)) ⌝ }
 {
     let (key, value) = split_word(args);
-    let key = parse_number(key, 65_535)?;
+    let key = parse_short(key)?;
     let value = parse_number(value, u64::MAX)?;
-    Some((key as u16, value))
+    Some((key, value))
 }
 
-/// A tick.
-fn parse_tick(digits: &[u8]) -> Option<u32>
-    ensures { λ r. ⌜ r ≡ tick (now (digits .entry)) ⌝ }
+/// The first key of a run of rounds, their count, and the key of the index.
+fn parse_rounds(args: &[u8]) -> Option<(u16, u16, u16)>
+    ensures { λ r. ⌜ r ≡ rounds (now (args .entry)) ⌝ }
 {
-    let tick = parse_number(digits, 4_294_967_295)?;
-    Some(tick as u32)
+    let (first, args) = split_word(args);
+    let (count, index) = split_word(args);
+    let first = parse_short(first)?;
+    let count = parse_short(count)?;
+    let index = parse_short(index)?;
+    Some((first, count, index))
 }
 
 /// Whether two words are the same.
@@ -77,8 +97,13 @@ fn is_same(word: &[u8], name: &[u8]) -> bool
 enum Verb {
     Card,
     Correct,
+    Recalculate,
+    Finish,
     List,
-    Clean,
+    Report,
+    Show,
+    Close,
+    CleanUp,
 }
 
 fn parse_verb(word: &[u8]) -> Option<Verb>
@@ -88,13 +113,30 @@ fn parse_verb(word: &[u8]) -> Option<Verb>
         Some(Verb::Card)
     } else if is_same(word, b"correct") {
         Some(Verb::Correct)
+    } else if is_same(word, b"recalculate") {
+        Some(Verb::Recalculate)
+    } else if is_same(word, b"finish") {
+        Some(Verb::Finish)
     } else if is_same(word, b"list") {
         Some(Verb::List)
+    } else if is_same(word, b"report") {
+        Some(Verb::Report)
+    } else if is_same(word, b"show") {
+        Some(Verb::Show)
+    } else if is_same(word, b"close") {
+        Some(Verb::Close)
     } else if is_same(word, b"clean") {
-        Some(Verb::Clean)
+        Some(Verb::CleanUp)
     } else {
         None
     }
+}
+
+/// An event without numbers.
+fn parse_plain(event: Event, args: &[u8]) -> Option<Event>
+    ensures { λ r. ⌜ r ≡ plain event (now (args .entry)) ⌝ }
+{
+    if args.is_empty() { Some(event) } else { None }
 }
 
 /// The event that a line tells of; none where the line is malformed.
@@ -111,8 +153,15 @@ pub fn parse(line: &[u8]) -> Option<Event>
             let (key, value) = parse_card(args)?;
             Some(Event::Correction(key, value))
         }
-        Verb::List if args.is_empty() => Some(Event::List),
-        Verb::List => Some(Event::ListBefore(parse_tick(args)?)),
-        Verb::Clean => Some(Event::CleanUp(parse_tick(args)?)),
+        Verb::Recalculate => {
+            let (first, count, index) = parse_rounds(args)?;
+            Some(Event::Recalculation(first, count, index))
+        }
+        Verb::Show => Some(Event::Show(parse_handle(args)?)),
+        Verb::Close => Some(Event::Close(parse_handle(args)?)),
+        Verb::Finish => parse_plain(Event::Finish, args),
+        Verb::List => parse_plain(Event::List, args),
+        Verb::Report => parse_plain(Event::Report, args),
+        Verb::CleanUp => parse_plain(Event::CleanUp, args),
     }
 }
