@@ -1,0 +1,4 @@
+pub mod Format
+pub mod Faults
+pub mod Lines
+pub mod Answers
