@@ -35,11 +35,23 @@ fn seventeen<S: VersionStore + Drop, V: Validator + Drop>(
     for handle in 1..17u32 {
         begins(&mut engine, Kind::Updater, handle)?;
     }
-    says(&mut engine, Call::Begin(Kind::Reader), Answer::Refused(Fault::TooManyActive))?;
+    says(
+        &mut engine,
+        Call::Begin(Kind::Reader),
+        Answer::Refused(Fault::TooManyActive),
+    )?;
     says(&mut engine, Call::Abort(3), Answer::Aborted)?;
-    says(&mut engine, Call::Abort(3), Answer::Refused(Fault::NoTransaction(3)))?;
+    says(
+        &mut engine,
+        Call::Abort(3),
+        Answer::Refused(Fault::NoTransaction(3)),
+    )?;
     begins(&mut engine, Kind::Reader, 17)?;
-    says(&mut engine, Call::Begin(Kind::Reader), Answer::Refused(Fault::TooManyActive))
+    says(
+        &mut engine,
+        Call::Begin(Kind::Reader),
+        Answer::Refused(Fault::TooManyActive),
+    )
 }
 
 #[test]
@@ -64,8 +76,16 @@ fn ranges<S: VersionStore + Drop, V: Validator + Drop>(store: S, validator: V) -
     check_eq(buffer[0], 9)?;
     sees(&mut engine, 1, 0, 0)?;
     says(&mut engine, Call::Read(1, 40, 0), Answer::Read)?;
-    says(&mut engine, Call::Read(1, 40, 1), Answer::Refused(Fault::KeyOutside(40)))?;
-    says(&mut engine, Call::Read(1, 1, 1), Answer::Refused(Fault::ShortBuffer(0)))
+    says(
+        &mut engine,
+        Call::Read(1, 40, 1),
+        Answer::Refused(Fault::KeyOutside(40)),
+    )?;
+    says(
+        &mut engine,
+        Call::Read(1, 1, 1),
+        Answer::Refused(Fault::ShortBuffer(0)),
+    )
 }
 
 fn refused(answer: Result<(), Fault>, number: u8, place: u64) -> bool {
@@ -91,13 +111,25 @@ fn keys<S: VersionStore + Drop, V: Validator + Drop>(store: S, validator: V) -> 
     for key in 0..32u16 {
         says(&mut engine, Call::Write(1, key, key as u64), Answer::Wrote)?;
     }
-    says(&mut engine, Call::Write(1, 32, 5), Answer::Refused(Fault::WriteListFull(1)))?;
+    says(
+        &mut engine,
+        Call::Write(1, 32, 5),
+        Answer::Refused(Fault::WriteListFull(1)),
+    )?;
     says(&mut engine, Call::Write(1, 0, 70), Answer::Wrote)?;
     sees(&mut engine, 1, 0, 70)?;
     sees(&mut engine, 1, 31, 31)?;
     sees(&mut engine, 1, 32, 0)?;
-    says(&mut engine, Call::Commit(1), Answer::Ended(Verdict::Full(32, 8)))?;
-    says(&mut engine, Call::Commit(1), Answer::Refused(Fault::NoTransaction(1)))
+    says(
+        &mut engine,
+        Call::Commit(1),
+        Answer::Ended(Verdict::Full(32, 8)),
+    )?;
+    says(
+        &mut engine,
+        Call::Commit(1),
+        Answer::Refused(Fault::NoTransaction(1)),
+    )
 }
 
 #[test]
@@ -114,13 +146,25 @@ fn ticks<S: VersionStore + Drop, V: Validator + Drop>(store: S, validator: V) ->
     let mut engine = Engine::make(2, store, validator);
     begins(&mut engine, Kind::Updater, 1)?;
     begins(&mut engine, Kind::Reader, 2)?;
-    says(&mut engine, Call::Begin(Kind::Reader), Answer::Refused(Fault::ClockSpent(2)))?;
-    says(&mut engine, Call::Write(2, 0, 5), Answer::Refused(Fault::ReaderWrites(2)))?;
+    says(
+        &mut engine,
+        Call::Begin(Kind::Reader),
+        Answer::Refused(Fault::ClockSpent(2)),
+    )?;
+    says(
+        &mut engine,
+        Call::Write(2, 0, 5),
+        Answer::Refused(Fault::ReaderWrites(2)),
+    )?;
     says(&mut engine, Call::Write(1, 0, 5), Answer::Wrote)?;
     says(&mut engine, Call::Commit(1), Answer::Ended(Verdict::Spent))?;
     sees(&mut engine, 2, 0, 0)?;
     says(&mut engine, Call::Commit(2), Answer::Ended(Verdict::Closed))?;
-    says(&mut engine, Call::Begin(Kind::Reader), Answer::Refused(Fault::ClockSpent(2)))
+    says(
+        &mut engine,
+        Call::Begin(Kind::Reader),
+        Answer::Refused(Fault::ClockSpent(2)),
+    )
 }
 
 #[test]
@@ -143,8 +187,16 @@ fn idles<S: VersionStore + Drop, V: Validator + Drop>(
 ) -> Result<(), Fail> {
     check(refused(Engine::check(last, &store, &validator), number, place))?;
     let mut engine = Engine::make(last, store, validator);
-    says(&mut engine, Call::Begin(Kind::Updater), Answer::Refused(Fault::ClockSpent(0)))?;
-    says(&mut engine, Call::Read(0, 0, 0), Answer::Refused(Fault::NoTransaction(0)))?;
+    says(
+        &mut engine,
+        Call::Begin(Kind::Updater),
+        Answer::Refused(Fault::ClockSpent(0)),
+    )?;
+    says(
+        &mut engine,
+        Call::Read(0, 0, 0),
+        Answer::Refused(Fault::NoTransaction(0)),
+    )?;
     says(&mut engine, Call::Reclaim, Answer::Reclaimed(0))
 }
 
