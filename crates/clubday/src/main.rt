@@ -95,6 +95,11 @@ struct Desk<S, V> {
 }
 
 impl<S: VersionStore, V: Validator> Desk<S, V> {
+    fn post(&mut self, heap: Global, key: u16, value: u64) -> Result<String, AllocError> {
+        let text = ended(heap, post(&mut self.engine, key, value))?;
+        format!(heap, "card {value} for key {key}: {text}")
+    }
+
     fn correct(&mut self, heap: Global, key: u16, value: u64) -> Result<String, AllocError> {
         let mut old = [0u64; 1];
         let handle = match open(&mut self.engine, key, 1, &mut old) {
@@ -103,7 +108,7 @@ impl<S: VersionStore, V: Validator> Desk<S, V> {
         };
         let text = ended(heap, finish(&mut self.engine, handle, key, value))?;
         let was = old[0];
-        format!(heap, "was {was}, {text}")
+        format!(heap, "card {value} for key {key} in place of {was}: {text}")
     }
 
     /// Reads the rounds of a recalculation, and remembers the index to write.
@@ -128,7 +133,7 @@ impl<S: VersionStore, V: Validator> Desk<S, V> {
                 });
                 format!(
                     heap,
-                    "recalculation {handle} read {count} rounds, index {value}"
+                    "recalculation {handle} read {count} rounds: index {value} for key {index}"
                 )
             }
             Err(fault) => refusal(heap, fault),
@@ -178,8 +183,11 @@ impl<S: VersionStore, V: Validator> Desk<S, V> {
     fn act(&mut self, heap: Global, event: Event) -> Result<String, AllocError> {
         let mut values = [0u64; KEYS as usize];
         match event {
-            Event::Card(key, value) => ended(heap, post(&mut self.engine, key, value)),
+            Event::Card(key, value) => self.post(heap, key, value),
             Event::Correction(key, value) => self.correct(heap, key, value),
+            Event::Recalculation(_, _, _) if self.pending.is_some() => {
+                String::from_str(heap, "a recalculation is open already")
+            }
             Event::Recalculation(first, count, index) => self.recalculate(
                 heap,
                 first,
