@@ -1,1 +1,2 @@
+mod Decodings
 mod Spacing

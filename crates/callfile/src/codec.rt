@@ -1,6 +1,6 @@
 ghost use mathlib.Core.Path.{_≡_};
 ghost use Rattle.std.specs.declared.option.Option.the-variants.{Some};
-ghost use Rattle.callfile.specs.Format.{decoded, encoded, laid-out, with-fields};
+ghost use Rattle.callfile.specs.Format.{decoded, call-of, encoded, laid-out, with-fields};
 use ledger::Call;
 use ledger::Kind;
 
@@ -12,31 +12,38 @@ pub fn decode(bytes: &[u8]) -> Option<Call>
     ensures { λ r. ⌜ r ≡ decoded (now (bytes .entry)) ⌝ }
 {
     match bytes {
-        [kind, 0, rest @ ..] if rest.len() == RECORD - 2 && rest[4] == 0 && rest[5] == 0 => {
-            let key = u16::from_le_bytes([rest[0], rest[1]]);
-            let count = u16::from_le_bytes([rest[2], rest[3]]);
-            let handle = u32::from_le_bytes([rest[6], rest[7], rest[8], rest[9]]);
+        [kind, 0, k0, k1, c0, c1, 0, 0, rest @ ..] if rest.len() == RECORD - 8 => {
+            let key = u16::from_le_bytes([*k0, *k1]);
+            let count = u16::from_le_bytes([*c0, *c1]);
+            let handle = u32::from_le_bytes([rest[0], rest[1], rest[2], rest[3]]);
             let value = u64::from_le_bytes([
+                rest[4],
+                rest[5],
+                rest[6],
+                rest[7],
+                rest[8],
+                rest[9],
                 rest[10],
                 rest[11],
-                rest[12],
-                rest[13],
-                rest[14],
-                rest[15],
-                rest[16],
-                rest[17],
             ]);
-            match (*kind, key, count, handle, value) {
-                (1, 0, 0, 0, 0) => Some(Call::Begin(Kind::Reader)),
-                (2, 0, 0, 0, 0) => Some(Call::Begin(Kind::Updater)),
-                (3, first, count, handle, 0) => Some(Call::Read(handle, first, count)),
-                (4, key, 0, handle, value) => Some(Call::Write(handle, key, value)),
-                (5, 0, 0, handle, 0) => Some(Call::Commit(handle)),
-                (6, 0, 0, handle, 0) => Some(Call::Abort(handle)),
-                (7, 0, 0, 0, 0) => Some(Call::Reclaim),
-                _ => None,
-            }
+            call_of(*kind, key, count, handle, value)
         }
+        _ => None,
+    }
+}
+
+/// The call that the fields say; none where a field that it does not use is not zero.
+fn call_of(kind: u8, key: u16, count: u16, handle: u32, value: u64) -> Option<Call>
+    ensures { λ r. ⌜ r ≡ call-of (with-fields kind key count handle value) ⌝ }
+{
+    match (kind, key, count, handle, value) {
+        (1, 0, 0, 0, 0) => Some(Call::Begin(Kind::Reader)),
+        (2, 0, 0, 0, 0) => Some(Call::Begin(Kind::Updater)),
+        (3, first, count, handle, 0) => Some(Call::Read(handle, first, count)),
+        (4, key, 0, handle, value) => Some(Call::Write(handle, key, value)),
+        (5, 0, 0, handle, 0) => Some(Call::Commit(handle)),
+        (6, 0, 0, handle, 0) => Some(Call::Abort(handle)),
+        (7, 0, 0, 0, 0) => Some(Call::Reclaim),
         _ => None,
     }
 }
