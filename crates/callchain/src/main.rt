@@ -1,4 +1,6 @@
 //! Answers the call file on its standard input, over a chain store and a stamp table.
+#![tactic(auto)]
+
 use callfile::stream::run;
 use chain::cell::Cell;
 use chain::store::ChainStore;

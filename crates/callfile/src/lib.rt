@@ -1,5 +1,7 @@
 //! Call files: records of calls on the engine, and the line that answers each.
 //! `line` has the lines, `answer` leads from a record to its line, and `stream` answers a whole input.
+#![tactic(auto)]
+
 pub mod answer;
 pub mod fault;
 pub mod line;

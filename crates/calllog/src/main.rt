@@ -1,4 +1,6 @@
 //! Answers the call file on its standard input, over a log store and a recent list.
+#![tactic(auto)]
+
 use callfile::stream::run;
 use engine::engine::LAST_TICK;
 use std::io;

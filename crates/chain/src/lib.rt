@@ -1,4 +1,6 @@
 //! A version store that links each key's versions from a head, newest first, and its unused cells in a list of their own.
+#![tactic(auto)]
+
 pub mod cell;
 mod links;
 pub mod store;

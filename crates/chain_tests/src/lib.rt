@@ -1,4 +1,6 @@
 //! Runs the chain store beside the log store, and holds every answer of the one to the other's.
+#![tactic(auto)]
+
 #[cfg(test)]
 mod tests {
     use chain::cell::Cell;

@@ -1,4 +1,6 @@
 //! A club's afternoon: its events, told by lines of text, and the transactions that they are made of.
+#![tactic(auto)]
+
 pub mod event;
 pub mod index;
 pub mod line;

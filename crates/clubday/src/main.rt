@@ -1,5 +1,7 @@
 //! Runs a club's afternoon, a line of text for each event, and prints what each one did.
 //! It runs on two engines at once, made of different stores and validators, and compares what they say.
+#![tactic(auto)]
+
 use chain::cell::Cell;
 use chain::store::ChainStore;
 use club::event::Event;

@@ -1,5 +1,7 @@
 //! The engine: six calls on transactions, over any version store and any validator.
 //! `engine` has the calls, `slip` gives them to the holder of a slip, and `replay` makes a list of them.
+#![tactic(auto)]
+
 pub mod engine;
 pub mod replay;
 pub mod slip;

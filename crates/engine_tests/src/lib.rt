@@ -1,4 +1,6 @@
 //! Runs the engine on the stores and validators that there are, and holds its answers to the rules.
+#![tactic(auto)]
+
 #[cfg(test)]
 mod afternoons;
 #[cfg(test)]

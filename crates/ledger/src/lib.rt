@@ -1,5 +1,7 @@
 // The calls on the engine, their answers and their faults, as values.
 // What each call answers is defined in `specs/`; the laws of it are the contracts in `laws`.
+#![tactic(auto)]
+
 ghost use Rattle.std.specs.Prelude.{◌≡◌};
 ghost use Rattle.ledger.specs.Faults.{reported};
 

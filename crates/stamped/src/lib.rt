@@ -1,4 +1,6 @@
 //! Records that carry a key and a stamp: one look-up and one closing of gaps over lent slices, for every kind of them.
+#![tactic(auto)]
+
 pub mod closing;
 pub mod looking;
 

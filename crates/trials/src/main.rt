@@ -1,6 +1,8 @@
 //! Answers the call files of a set over every pair of store and validator, and compares each line
 //! with the one that an outside implementation gave.
 //! The word `differ` is printed only where one does.
+#![tactic(auto)]
+
 mod tally;
 mod trial;
 
