@@ -2,8 +2,8 @@ use Rattle.std.proofs.Common.{◌∙◌, arith}
 use Rattle.chain.proofs.Chains.{gives, length_list}
 use Rattle.chain.proofs.links.give_back.Goals as goal
 
-pub overflow-add-count : goal.overflow-add-count
-overflow-add-count c =
+pub overflow_add-count : goal.overflow_add-count
+overflow_add-count c =
     let g = gives c.loop-link.cells c.loop-link.link c.loop-link.unused c.in-Some.i c.in-Some.is c.loop-link.invariant.0 c.loop-link.invariant.1 in
     omega (arith, g.long, c.loop-link.invariant.2, length_list c.args.cells.now c.args.from)
 

@@ -17,8 +17,8 @@ step c =
     c.cut-below-tail.new.cells c.give-back-link.new.cells c.cut-below-tail.result c.give-back-link.result.0 c.give-back-link.result.1
     c.cut-below-tail.ensures.after c.cut-below-tail.ensures.tail c.give-back-link.ensures.after c.give-back-link.ensures.unused c.give-back-link.ensures.count
 
-pub overflow-add-freed : goal.overflow-add-freed
-overflow-add-freed c =
+pub overflow_add-freed : goal.overflow_add-freed
+overflow_add-freed c =
     let p = step c in
     omega (arith, p.freed, p.long, length_list c.give-back-link.new.cells c.give-back-link.result.0, c.requires.few)
 

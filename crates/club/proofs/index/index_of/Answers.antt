@@ -14,8 +14,8 @@ loop-round-preserved c =
 pub returns-then-count-eq0 : goal.returns-then-count-eq0
 returns-then-count-eq0 c = no_index c.args.rounds.now c.loop-round.round-index c.loop-round.sum c.loop-round.count c.loop-round.invariant c.loop-round-test.false c.if-count-eq0.true
 
-pub overflow-cast-result-2 : goal.overflow-cast-result-2
-overflow-cast-result-2 c =
+pub overflow_cast-result-2 : goal.overflow_cast-result-2
+overflow_cast-result-2 c =
     let most = div-le_of_le-mul c.loop-round.count {m = c.loop-round.sum} {n = 18446744073709551615} c.loop-round.invariant.bound in
     omega (arith, most)
 

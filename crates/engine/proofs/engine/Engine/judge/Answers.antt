@@ -11,18 +11,18 @@ returns-in-Some g c = record {
 
 pub returns-then-self : goal.returns-then-self
 returns-then-self g c = record {
-  judges = λ l b f e r. judge_spent f (view c.args.updater.now) e r c.make-room.ensures.table c.as-slice-writes.result.now c.as-slice-writes.ensures (c.make-room.ensures.fits l) (sym c.in-default.is ∙ c.first_clash.ensures) b (omega (arith, c.if-self.true));
+  judges = λ l b f e r. judge_spent f (view c.args.updater.now) e r c.make-room.ensures.table c.as-slice-writes.result.now c.as-slice-writes.ensures (c.make-room.ensures.fits l) (sym c.in_default.is ∙ c.first_clash.ensures) b (omega (arith, c.if-self.true));
   idle = c.make-room.ensures.idle;
 }
 
 pub returns-then-writes-free : goal.returns-then-writes-free
 returns-then-writes-free g c = record {
-  judges = λ l b f e r. judge_full f (view c.args.updater.now) e r c.make-room.ensures.table c.as-slice-writes.result.now c.as-slice-writes.ensures (c.make-room.ensures.fits l) (sym c.in-default.is ∙ c.first_clash.ensures) (omega (arith, c.if-self.false)) b c.free-free.result c.free-free.ensures (omega (arith, c.if-writes-free.true));
+  judges = λ l b f e r. judge_full f (view c.args.updater.now) e r c.make-room.ensures.table c.as-slice-writes.result.now c.as-slice-writes.ensures (c.make-room.ensures.fits l) (sym c.in_default.is ∙ c.first_clash.ensures) (omega (arith, c.if-self.false)) b c.free-free.result c.free-free.ensures (omega (arith, c.if-writes-free.true));
   idle = c.make-room.ensures.idle;
 }
 
 pub returns : goal.returns
 returns g c = record {
-  judges = λ l b f e r. judge_committed f (view c.args.updater.now) e r c.make-room.ensures.table c.as-slice-writes.result.now c.as-slice-writes.ensures (c.make-room.ensures.fits l) (sym c.in-default.is ∙ c.first_clash.ensures) (omega (arith, c.if-self.false)) b (omega (arith, c.free-free.ensures, c.if-writes-free.false)) _ _ _ c.install.ensures.table c.install.ensures.store c.install.ensures.validator;
+  judges = λ l b f e r. judge_committed f (view c.args.updater.now) e r c.make-room.ensures.table c.as-slice-writes.result.now c.as-slice-writes.ensures (c.make-room.ensures.fits l) (sym c.in_default.is ∙ c.first_clash.ensures) (omega (arith, c.if-self.false)) b (omega (arith, c.free-free.ensures, c.if-writes-free.false)) _ _ _ c.install.ensures.table c.install.ensures.store c.install.ensures.validator;
   idle = λ z. absurd (omega (arith, ap (λ t. t.last) c.make-room.ensures.table, c.if-self.false));
 }

@@ -8,17 +8,17 @@ use Rattle.engine.proofs.Fittings.{found_same}
 use Rattle.engine.proofs.Takings.{no_record, admitted_read, read_refused, read_steps}
 use Rattle.engine.proofs.engine.Engine.read.Goals as goal
 
-pub returns-in-default : goal.returns-in-default
-returns-in-default g c = record {
-  serves = λ l f. no_record f _ c.args.buffer.now c.args.handle (rw (found_same f c.args.handle ∙ c.in-default.ensures));
+pub returns-in_default : goal.returns-in_default
+returns-in_default g c = record {
+  serves = λ l f. no_record f _ c.args.buffer.now c.args.handle (rw (found_same f c.args.handle ∙ c.in_default.ensures));
   idle = λ _. (refl, refl);
 }
 
-pub returns-in-err-take : goal.returns-in-err-take
-returns-in-err-take g c =
+pub returns-in_err-take : goal.returns-in_err-take
+returns-in_err-take g c =
     let p = err_from_is_err_and c.from-residual.result c.from-residual.ensures.1 in
     let here = here_at c.args.self.now.table.records c.args.handle c.in-Some.slot c.in-Some.ensures c.index-self-slot.result in
-    let e = c.in-err-take.ensures in
+    let e = c.in_err-take.ensures in
     record {
       serves = λ l f.
           rw (p.1, p.2)
@@ -30,14 +30,14 @@ returns-in-err-take g c =
 
 pub fill-requires : goal.fill-requires
 fill-requires g c =
-    let e = c.in-ok-take.ensures in
+    let e = c.in_ok-take.ensures in
     let a = admitted_read c.keys-keys.result (length c.args.buffer.now) (view (get_or c.args.self.now.table.records c.in-Some.slot c.index-self-slot.result)) c.args.handle c.args.first c.args.count e.answer in
     (a.1, omega (arith, a.0))
 
 pub returns : goal.returns
 returns g c =
     let here = here_at c.args.self.now.table.records c.args.handle c.in-Some.slot c.in-Some.ensures c.index-self-slot.result in
-    let e = c.in-ok-take.ensures in
+    let e = c.in_ok-take.ensures in
     record {
       serves = λ l f.
           read_steps f c.args.handle c.in-Some.slot here c.take.new.self e.state c.args.first c.args.count c.args.buffer.now c.fill.new.buffer

@@ -7,9 +7,9 @@ use Rattle.engine.proofs.Fittings.{found_same}
 use Rattle.engine.proofs.Takings.{no_record, write_steps}
 use Rattle.engine.proofs.engine.Engine.write.Goals as goal
 
-pub returns-in-default : goal.returns-in-default
-returns-in-default g c = record {
-  serves = λ b l f. no_record f _ b c.args.handle (rw (found_same f c.args.handle ∙ c.in-default.ensures));
+pub returns-in_default : goal.returns-in_default
+returns-in_default g c = record {
+  serves = λ b l f. no_record f _ b c.args.handle (rw (found_same f c.args.handle ∙ c.in_default.ensures));
   idle = λ _. (refl, refl);
 }
 

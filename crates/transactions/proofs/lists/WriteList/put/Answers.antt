@@ -10,8 +10,8 @@ use Rattle.transactions.proofs.lists.WriteList.put.Goals as goal
 below : (c : goal.In-Some) → c.in-Some.i < c.args.self.now.len
 below c = let w = c.args.self.now in let lt = c.in-Some.ensures.within in let n = length-take-le w.len w.items (omega arith) in omega arith
 
-pub offset-bounds-self-i : goal.offset-bounds-self-i
-offset-bounds-self-i c = let lt = below c in search rules
+pub offset_bounds-self-i : goal.offset_bounds-self-i
+offset_bounds-self-i c = let lt = below c in search rules
 
 pub returns-in-Some : goal.returns-in-Some
 returns-in-Some c =
@@ -25,11 +25,11 @@ returns-then-self-ge32 c =
     let w = c.args.self.now in
     let n = length-take-le w.len w.items (omega arith) in
     let full = le-leb 32 (length (take w.len w.items)) (omega arith) in
-    record { room = rw (c.in-default.ensures, full); after = rw (c.in-default.ensures, full) }
+    record { room = rw (c.in_default.ensures, full); after = rw (c.in_default.ensures, full) }
 
 pub returns : goal.returns
 returns c =
     let w = c.args.self.now in
     let n = length-take-le w.len w.items (omega arith) in
     let free = lt-leb 32 (length (take w.len w.items)) (omega arith) in
-    record { room = rw (c.in-default.ensures, free); after = rw (c.in-default.ensures, free) (take_more_set w.items w.len _ (omega arith) ∙ sym (written_push (take w.len w.items) c.args.key c.args.value c.in-default.ensures)) }
+    record { room = rw (c.in_default.ensures, free); after = rw (c.in_default.ensures, free) (take_more_set w.items w.len _ (omega arith) ∙ sym (written_push (take w.len w.items) c.args.key c.args.value c.in_default.ensures)) }

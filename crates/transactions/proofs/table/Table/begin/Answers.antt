@@ -6,10 +6,10 @@ use Rattle.transactions.proofs.Slots.{slots_open}
 use Rattle.transactions.proofs.Shuffles.{shuffle_refl}
 use Rattle.transactions.proofs.table.Table.begin.Goals as goal
 
-pub returns-in-default : goal.returns-in-default
-returns-in-default c =
+pub returns-in_default : goal.returns-in_default
+returns-in_default c =
     let rs = c.args.self.now.records in
-    record { answer = rw (le-leb 16 (length (active_of rs)) (omega (arith, c.in-default.ensures))); clock = refl; last = refl; active = shuffle_refl _ }
+    record { answer = rw (le-leb 16 (length (active_of rs)) (omega (arith, c.in_default.ensures))); clock = refl; last = refl; active = shuffle_refl _ }
 
 pub returns-then-self : goal.returns-then-self
 returns-then-self c =

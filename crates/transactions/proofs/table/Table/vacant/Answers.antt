@@ -25,7 +25,7 @@ loop-i-preserved c =
     let d = c.record-item.result in
     let n : length rs ≡ 16 = search rules in
     let e = at_drop_more (λ xs. length (active_of xs)) rs i d (omega arith) in
-    let f = ap length (active_taken (get_or rs i d) (drop (i + 1) rs) (not_free (get_or rs i d).state c.in-default.not-Free)) in
+    let f = ap length (active_taken (get_or rs i d) (drop (i + 1) rs) (not_free (get_or rs i d).state c.in_default.not-Free)) in
     (λ _. n, omega (arith, e, f, c.loop-i.invariant.1))
 
 pub returns : goal.returns

@@ -14,8 +14,8 @@ loop-i-preserved c =
     let in' : l.i < length es = omega (arith, length-take-le s.used s.entries.now s.fits) in
     let most = entry_latest s.keys es s.once l.i in' (get_or s.entries.now l.i blank) (get_or-take s.used s.entries.now l.i blank c.loop-i-test.true) in
     elim c.if-stamp-latest.branch [
-      | then-stamp-latest w ↦ (below_more _ _ (λ j h. omega (arith, l.invariant.0 j h, w.latest_is)) (omega (arith, w.latest_is)), omega (arith, w.latest_is, most))
-      | else-stamp-latest w ↦ (below_more _ _ (λ j h. omega (arith, l.invariant.0 j h, w.latest_is)) (omega (arith, w.latest_is)), omega (arith, w.latest_is, l.invariant.1))
+      | then-stamp-latest w ↦ (below_more _ _ (λ j h. omega (arith, l.invariant.0 j h, w.latest-is)) (omega (arith, w.latest-is)), omega (arith, w.latest-is, most))
+      | else-stamp-latest w ↦ (below_more _ _ (λ j h. omega (arith, l.invariant.0 j h, w.latest-is)) (omega (arith, w.latest-is)), omega (arith, w.latest-is, l.invariant.1))
     ]
 
 pub returns : goal.returns

@@ -5,4 +5,4 @@ use Rattle.validation.proofs.recent.RecentListValidator.trim.Goals as goal
 pub returns : goal.returns
 returns c =
     let s = c.args.self.now in
-    rw (c.drop-entries.ensures.keys, c.drop-entries.ensures.kept) (list_trimmed s.keys (take s.used s.entries.now) s.once c.args.tick)
+    rw (c.drop_entries.ensures.keys, c.drop_entries.ensures.kept) (list_trimmed s.keys (take s.used s.entries.now) s.once c.args.tick)

@@ -11,8 +11,8 @@ loop-i-preserved c =
     let xs = t.stamps.now in
     let i = c.loop-i.i in
     elim c.if-self-i.branch [
-      | then-self-i w ↦ (AllWithin-more (λ s. s ≤ c.if-self-i.latest) xs 0 i (λ k d low high. omega (arith, c.loop-i.invariant.0 k d low high, w.latest_is)) (λ d. omega (arith, get_or_default xs i d 0 (omega arith), w.latest_is)), omega (arith, w.latest_is, stamp_latest t.keys t.grain t.some xs t.places i (omega arith)))
-      | else-self-i w ↦ (AllWithin-more (λ s. s ≤ c.if-self-i.latest) xs 0 i (λ k d low high. omega (arith, c.loop-i.invariant.0 k d low high, w.latest_is)) (λ d. omega (arith, get_or_default xs i d 0 (omega arith), w.latest_is)), omega (arith, w.latest_is, c.loop-i.invariant.1))
+      | then-self-i w ↦ (AllWithin-more (λ s. s ≤ c.if-self-i.latest) xs 0 i (λ k d low high. omega (arith, c.loop-i.invariant.0 k d low high, w.latest-is)) (λ d. omega (arith, get_or_default xs i d 0 (omega arith), w.latest-is)), omega (arith, w.latest-is, stamp_latest t.keys t.grain t.some xs t.places i (omega arith)))
+      | else-self-i w ↦ (AllWithin-more (λ s. s ≤ c.if-self-i.latest) xs 0 i (λ k d low high. omega (arith, c.loop-i.invariant.0 k d low high, w.latest-is)) (λ d. omega (arith, get_or_default xs i d 0 (omega arith), w.latest-is)), omega (arith, w.latest-is, c.loop-i.invariant.1))
     ]
 
 pub returns : goal.returns
