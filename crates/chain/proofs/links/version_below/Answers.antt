@@ -5,10 +5,10 @@ use Rattle.chain.proofs.Adds.{as_of_first}
 use Rattle.chain.proofs.links.version_below.Goals as goal
 
 pub version-requires : goal.version-requires
-version-requires c = first_inside c.args.tick c.args.cells.now c.args.from c.find-below-found.result c.requires c.find-below-found.ensures
+version-requires c = first_inside c.args.tick c.args.cells.now c.args.from c.find_below-found.result c.requires c.find_below-found.ensures
 
 pub returns : goal.returns
 returns c =
     c.version.ensures
-    ∙ ap (version_of c.args.cells.now) c.find-below-found.ensures
+    ∙ ap (version_of c.args.cells.now) c.find_below-found.ensures
     ∙ as_of_first c.args.tick c.args.cells.now (list_from c.args.cells.now c.args.from)

@@ -7,7 +7,7 @@ use Rattle.club.proofs.transactions.open.Goals as goal
 
 pub returns-in_err-handle : goal.returns-in_err-handle
 returns-in_err-handle g c =
-    let q = err_from_is_err_and c.from-residual.result c.from-residual.ensures.1 in
+    let q = err_from_is_err_and c.from_residual.result c.from_residual.ensures.1 in
     rw (q.1, q.2)
     (makes_no_open g.S.VersionStore.meaning g.V.Validator.meaning c.args.engine.now c.begin.new.self c.args.first c.args.count c.args.rounds.now c.in_err-handle.field-0.0 (c.in_err-handle.ensures.serves []))
 

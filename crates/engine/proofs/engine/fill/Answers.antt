@@ -9,7 +9,7 @@ pub loop-i-init : goal.loop-i-init
 loop-i-init g c = refl
 
 pub loop-i-preserved : goal.loop-i-preserved
-loop-i-preserved g c = fill_more (shown (g.S.VersionStore.meaning c.args.store.now) (view c.args.taker.now)) c.args.first c.loop-i.i _ c.args.buffer.now c.loop-i.buffer (omega arith) c.loop-i.invariant c.value-at.ensures
+loop-i-preserved g c = fill_more (shown (g.S.VersionStore.meaning c.args.store.now) (view c.args.taker.now)) c.args.first c.loop-i.i _ c.args.buffer.now c.loop-i.buffer (omega arith) c.loop-i.invariant c.value_at.ensures
 
 pub returns : goal.returns
 returns g c =

@@ -16,7 +16,7 @@ returns-in_default g c = record {
 
 pub returns-in_err-take : goal.returns-in_err-take
 returns-in_err-take g c =
-    let p = err_from_is_err_and c.from-residual.result c.from-residual.ensures.1 in
+    let p = err_from_is_err_and c.from_residual.result c.from_residual.ensures.1 in
     let here = here_at c.args.self.now.table.records c.args.handle c.in-Some.slot c.in-Some.ensures c.index-self-slot.result in
     let e = c.in_err-take.ensures in
     record {

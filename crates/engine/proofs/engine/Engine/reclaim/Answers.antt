@@ -7,7 +7,7 @@ returns-then-self-eq0 g c = record { serves = λ b l f. reclaim_idle f c.if-self
 
 pub returns : goal.returns
 returns g c = record {
-  serves = λ b l f. reclaim_steps f (omega (arith, c.if-self-eq0.false)) b _ _ _ c.prune-removed.ensures.count c.prune-removed.ensures.after c.trim.ensures (omega (arith, c.least-start.ensures)) (omega (arith, c.least-start-2.ensures));
+  serves = λ b l f. reclaim_steps f (omega (arith, c.if-self-eq0.false)) b _ _ _ c.prune-removed.ensures.count c.prune-removed.ensures.after c.trim.ensures (omega (arith, c.least_start.ensures)) (omega (arith, c.least_start-2.ensures));
   table = refl;
   idle = λ z. absurd (c.if-self-eq0.false z);
 }

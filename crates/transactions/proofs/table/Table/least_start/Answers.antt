@@ -27,9 +27,9 @@ loop-record-preserved c =
     let m = least_more kind r rest n in
     elim c.if-holds.branch [
       | then-holds w ↦ let x = w.min-least.ensures in let y = cond-true (holds_kind kind r.state) (min r.start (least_start (of_kind kind) n (active_of rest))) (least_start (of_kind kind) n (active_of rest)) (sym w.if-holds.ensures) in
-          (λ _. len, omega (arith, w.least_is, c.loop-record.invariant.1), omega (arith, e, m, y, w.least_is, c.loop-record.invariant.2))
+          (λ _. len, omega (arith, w.least-is, c.loop-record.invariant.1), omega (arith, e, m, y, w.least-is, c.loop-record.invariant.2))
       | else-holds w ↦ let y = cond-false (holds_kind kind r.state) (min r.start (least_start (of_kind kind) n (active_of rest))) (least_start (of_kind kind) n (active_of rest)) (sym w.if-holds.ensures) in
-          (λ _. len, omega (arith, w.least_is, c.loop-record.invariant.1), omega (arith, e, m, y, w.least_is, c.loop-record.invariant.2))
+          (λ _. len, omega (arith, w.least-is, c.loop-record.invariant.1), omega (arith, e, m, y, w.least-is, c.loop-record.invariant.2))
     ]
 
 pub returns : goal.returns
