@@ -32,6 +32,7 @@ fn main(rt: HostRuntime) -> io::Result<()> {
     let store = ChainStore::make(KEYS, &mut heads, &mut cells);
     let validator = StampTable::make(KEYS, GRAIN, &mut stamps);
     run(
+        rt.alloc(),
         LAST_TICK,
         store,
         validator,

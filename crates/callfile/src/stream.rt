@@ -9,7 +9,9 @@ use validation::validator::Validator;
 use versions::store::VersionStore;
 
 /// Answers each record of an input on a new engine, until the input ends. Every read is lent the buffer.
+/// Only the buffers of input and output are allocated, once.
 pub fn run<S: VersionStore + Drop, V: Validator + Drop, R: Read + Drop, W: Write + Drop>(
+    alloc: Global,
     last: u32,
     store: S,
     validator: V,
@@ -18,8 +20,8 @@ pub fn run<S: VersionStore + Drop, V: Validator + Drop, R: Read + Drop, W: Write
     output: W,
 ) -> io::Result<()> {
     let mut engine = Engine::make(last, store, validator);
-    let mut input = BufReader::new(input);
-    let mut output = BufWriter::new(output);
+    let mut input = BufReader::new(alloc, input)?;
+    let mut output = BufWriter::new(alloc, output)?;
     for number in 1..u64::MAX {
         // Who waits for an answer before the next record must have it before that is waited for.
         if input.buffer().len() < RECORD {

@@ -31,6 +31,7 @@ fn main(rt: HostRuntime) -> io::Result<()> {
     let store = LogStore::make(KEYS, &mut cells);
     let validator = RecentList::make(KEYS, &mut entries);
     run(
+        rt.alloc(),
         LAST_TICK,
         store,
         validator,

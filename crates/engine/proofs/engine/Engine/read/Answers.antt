@@ -32,7 +32,7 @@ pub fill-requires : goal.fill-requires
 fill-requires g c =
     let e = c.in_ok-take.ensures in
     let a = admitted_read c.keys-keys.result (length c.args.buffer.now) (view (get_or c.args.self.now.table.records c.in-Some.slot c.index-self-slot.result)) c.args.handle c.args.first c.args.count e.answer in
-    (a.1, omega (arith, a.0))
+    record { count_in_bounds = a.1; count_bound = omega (arith, a.0) }
 
 pub returns : goal.returns
 returns g c =
