@@ -32,6 +32,7 @@ fn answers_to_the_end(rt: HostRuntime) -> Result<(), Fail> {
     let mut buffer = [0; 2];
     let mut lines = Vec::new(rt.alloc());
     run(
+        rt.alloc(),
         100,
         LogStore::make(4, &mut cells),
         RecentList::make(4, &mut entries),

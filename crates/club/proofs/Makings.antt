@@ -1,5 +1,5 @@
 -- The calls of a club's transactions, made one after another on an engine.
-use Rattle.std.proofs.Common.{◌≡◌, ℕ, List, [], ◌∷◌, ◌++◌, Ok, Err, Result, sym, refl, subst, append_assoc}
+use Rattle.std.proofs.Common.{ℕ, List, [], ◌∷◌, ◌++◌, Ok, Err, Result, sym, refl, subst, append_assoc}
 use Rattle.ledger.specs.declared.Kind.TheVariants.{Updater}
 use Rattle.ledger.specs.declared.Call.{Call}
 use Rattle.ledger.specs.declared.Call.TheVariants.{Begin, Read, Write, Commit, Abort}

@@ -1,18 +1,16 @@
 -- Commit: the verdict and what it leaves are the ledger's.
-use Rattle.std.proofs.Common.{◌≡◌, ℕ, ◌+◌, ◌-◌, ◌<◌, ◌≤◌, Bool, true, false, cond, not, eqb, ltb, leb, List, [], ◌∷◌, length, set, Some, None, Option, sym, refl, ap, ◌∙◌, subst, arith}
+use Rattle.std.proofs.Common.{◌≡◌, ℕ, ◌+◌, ◌<◌, ◌≤◌, Bool, true, false, cond, ltb, List, length, set, Some, None, sym, refl, ap, ◌∙◌, subst, arith}
 use Rattle.std.specs.List.{AllByRecursion as All}
 use Rattle.std.proofs.lemmas.Bool.{ltb-true, ltb-false, lt-ltb, le-ltb, le-leb, lt-leb, cond-true, cond-false}
 use Rattle.ledger.specs.declared.Write.{Write as Entry}
 use Rattle.ledger.specs.declared.Verdict.{Verdict}
 use Rattle.ledger.specs.declared.Verdict.TheVariants.{Closed, Restart, Spent, Full, Committed}
-use Rattle.ledger.specs.declared.Fault.TheVariants.{NoTransaction}
 use Rattle.ledger.specs.declared.Call.TheVariants.{Commit}
-use Rattle.ledger.specs.declared.Answer.{Answer}
-use Rattle.ledger.specs.declared.Answer.TheVariants.{Ended, Refused}
-use Rattle.ledger.specs.Ledger.{Limits, Transaction, Ledger, found, is_reader}
-use Rattle.ledger.specs.Calls.{Outcome, step, refused, with_active, without, out_of_ticks, reclaimed, first_clash, read_keys, clash, free, too_full, ended, installed, judged_by, judged, commit_by}
-use Rattle.ledger.specs.Reach.{Reached, next}
-use Rattle.ledger.specs.Orderly.{Fine, Tidy, Orderly}
+use Rattle.ledger.specs.declared.Answer.TheVariants.{Ended}
+use Rattle.ledger.specs.Ledger.{Transaction, Ledger, found, is_reader}
+use Rattle.ledger.specs.Calls.{Outcome, step, without, out_of_ticks, reclaimed, first_clash, read_keys, clash, free, too_full, ended, installed, judged_by, judged, commit_by}
+use Rattle.ledger.specs.Reach.{next}
+use Rattle.ledger.specs.Orderly.{Fine}
 use Rattle.ledger.proofs.Actives.{all_found}
 use Rattle.ledger.proofs.Ways.{Judges, standing, tidied}
 use Rattle.ledger.proofs.Orders.{orderly, tidy, fine_found}
@@ -23,14 +21,14 @@ use Rattle.transactions.specs.declared.table.Table.{Table}
 use Rattle.transactions.specs.View.{active_of, view, taken}
 use Rattle.transactions.specs.Places.{Here}
 use Rattle.transactions.specs.Shuffle.{Shuffle}
-use Rattle.engine.specs.Fits.{Fits, Holds, limits_of}
+use Rattle.engine.specs.Fits.{Fits, limits_of}
 use Rattle.engine.specs.Endings.{first_named, all_added, all_noted}
 use Rattle.engine.specs.Verdicts.{with_room, Judged}
 use Rattle.engine.specs.Serves.{Steps}
 use Rattle.transactions.proofs.Shuffles.{shuffle_kept}
 use Rattle.transactions.proofs.Slots.{slots_free}
-use Rattle.engine.proofs.Fittings.{last_is, limits_are, busy, places_apart, found_here, found_same, keeps_refused, keeps_moved}
-use Rattle.engine.proofs.Installs.{Added, Noted, adds, notes, holds_installed}
+use Rattle.engine.proofs.Fittings.{last_is, limits_are, busy, places_apart, found_here}
+use Rattle.engine.proofs.Installs.{adds, notes, holds_installed}
 use Rattle.engine.proofs.Validations.{clash_named, full_judged}
 use Rattle.engine.proofs.Reclaimings.{room_is}
 

@@ -1,11 +1,11 @@
 -- What a ledger that fits knows of the engine, and what a step that changes only clock and transactions leaves.
-use Rattle.std.proofs.Common.{◌≡◌, ℕ, zero, suc, ◌+◌, ◌<◌, ◌≤◌, Bool, true, false, cond, eqb, ltb, leb, List, [], ◌∷◌, length, Some, None, Option, unwrap_or, sym, refl, ap, ◌∙◌, subst, arith}
+use Rattle.std.proofs.Common.{◌≡◌, ℕ, ◌+◌, ◌<◌, ◌≤◌, Bool, true, false, cond, eqb, leb, List, Some, unwrap_or, sym, refl, ap, ◌∙◌, subst, arith}
 use Rattle.std.proofs.lemmas.Bool.{eqb-true, ne_eqb, cond-false, cond_both, lt-leb}
 use Rattle.ledger.specs.declared.Call.{Call}
 use Rattle.ledger.specs.declared.Fault.{Fault}
 use Rattle.ledger.specs.declared.Answer.{Answer}
 use Rattle.ledger.specs.declared.Answer.TheVariants.{Refused}
-use Rattle.ledger.specs.Ledger.{Limits, Transaction, Ledger, found, is_reader, horizon, value_below, newest_value, own_write, no_limits}
+use Rattle.ledger.specs.Ledger.{Transaction, Ledger, found, is_reader, horizon, value_below, newest_value, own_write, no_limits}
 use Rattle.ledger.specs.Calls.{Outcome, step, refused, seen}
 use Rattle.ledger.specs.Reach.{Reached, next}
 use Rattle.ledger.specs.Orderly.{Apart}
@@ -13,7 +13,6 @@ use Rattle.ledger.proofs.Actives.{all_found, least_each}
 use Rattle.ledger.proofs.Orders.{sound, dated, fine_found}
 use Rattle.versions.specs.Meaning.{Meaning as Store, as_of, newest}
 use Rattle.validation.specs.Meaning.{Meaning as Stamps}
-use Rattle.transactions.specs.declared.record.Record.{Record}
 use Rattle.transactions.specs.declared.table.Table.{Table}
 use Rattle.transactions.specs.View.{active_of, view}
 use Rattle.transactions.specs.Places.{Here}

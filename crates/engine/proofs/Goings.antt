@@ -1,5 +1,5 @@
 -- One call more in a history that led to the engine.
-use Rattle.std.proofs.Common.{◌≡◌, ℕ, ◌<◌, List, [], ◌∷◌, sym, refl, ap, ◌∙◌, subst, ⊎_elim, arith}
+use Rattle.std.proofs.Common.{◌≡◌, ℕ, ◌<◌, List, ◌∷◌, sym, ap, ◌∙◌, subst, ⊎_elim, arith}
 use Rattle.std.proofs.lemmas.Bool.{cases_eq}
 use Rattle.ledger.specs.declared.Call.{Call}
 use Rattle.ledger.specs.declared.Answer.{Answer}
@@ -13,7 +13,7 @@ use Rattle.validation.specs.Meaning.{Meaning as Stamps}
 use Rattle.transactions.specs.declared.table.Table.{Table}
 use Rattle.engine.specs.declared.engine.Engine.{Engine}
 use Rattle.engine.specs.Fits.{Fits, limits_of}
-use Rattle.engine.specs.Serves.{Serves, Led, GoesOn, made, newest_in}
+use Rattle.engine.specs.Serves.{Serves, GoesOn, made, newest_in}
 use Rattle.engine.proofs.Chains.{chain_newest}
 use Rattle.engine.proofs.Fittings.{limits_are}
 

@@ -1,17 +1,17 @@
 -- A commit: with its writes added and noted, store and validator hold the ledger with its versions.
-use Rattle.std.proofs.Common.{◌≡◌, ℕ, suc, ◌+◌, ◌-◌, ◌<◌, ◌≤◌, max, Bool, true, false, cond, ◌&&◌, ◌||◌, eqb, ltb, leb, List, [], ◌∷◌, ◌++◌, length, Some, None, Ok, Err, Option, Result, sym, refl, ap, ◌∙◌, subst, arith}
+use Rattle.std.proofs.Common.{◌≡◌, ℕ, ◌+◌, ◌<◌, ◌≤◌, max, Bool, true, false, cond, ◌&&◌, ◌||◌, eqb, ltb, List, [], ◌∷◌, ◌++◌, length, Some, None, Option, sym, refl, ap, ◌∙◌, subst, arith}
 use Rattle.std.specs.List.{AllByRecursion as All}
 use Rattle.std.proofs.ByRecursion.{All-weaker}
 use Rattle.std.proofs.lemmas.Bool.{eqb-true, ne_eqb, le-ltb, lt-leb, cond_both}
 use Rattle.ledger.specs.declared.Write.{Write}
-use Rattle.ledger.specs.Ledger.{Limits, Version, Transaction, Ledger, any, own_write, present_count}
+use Rattle.ledger.specs.Ledger.{Version, Transaction, Ledger, any, own_write}
 use Rattle.ledger.specs.Calls.{granule_stamp, stamped, installed, free}
-use Rattle.ledger.specs.Orderly.{Distinct, Fine, Dated, Tidy, Orderly}
+use Rattle.ledger.specs.Orderly.{Distinct, Fine, Orderly}
 use Rattle.ledger.proofs.Actives.{all_two}
-use Rattle.versions.specs.Meaning.{Meaning as Store, newest, kept, add_answer, added, put}
+use Rattle.versions.specs.Meaning.{Meaning as Store, newest, kept, put}
 use Rattle.versions.proofs.Lists.{sum_one}
 use Rattle.versions.proofs.Meanings.{add_fine, added_done}
-use Rattle.validation.specs.Meaning.{Meaning as Stamps, stamp_at, note_answer, noted, with_stamps}
+use Rattle.validation.specs.Meaning.{Meaning as Stamps, stamp_at, noted, with_stamps}
 use Rattle.engine.specs.Fits.{chain_of, kept_stamp, Holds}
 use Rattle.engine.specs.Endings.{all_added, all_noted}
 use Rattle.engine.proofs.Reclaims.{chain_below, kept_is}

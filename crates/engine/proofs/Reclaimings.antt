@@ -1,25 +1,21 @@
 -- Reclaim: what was done to store and validator is the ledger's step.
-use Rattle.std.proofs.Common.{◌≡◌, ℕ, ◌+◌, ◌-◌, ◌^◌, ◌<◌, ◌≤◌, min, Bool, true, false, cond, not, ◌&&◌, eqb, ltb, leb, List, [], ◌∷◌, length, Some, None, filter, Option, sym, refl, ap, ◌∙◌, subst, arith}
+use Rattle.std.proofs.Common.{◌≡◌, ℕ, ◌+◌, ◌-◌, ◌^◌, ◌<◌, ◌≤◌, min, Bool, ◌&&◌, List, [], length, filter, sym, refl, ap, ◌∙◌, subst, arith}
 use Rattle.std.specs.List.{AllByRecursion as All}
-use Rattle.std.proofs.lemmas.Bool.{ltb-true, ltb-false, lt-ltb, le-ltb, le-leb, lt-leb}
+use Rattle.std.proofs.lemmas.Bool.{lt-ltb, le-ltb}
 use Rattle.ledger.specs.declared.Kind.{Kind}
 use Rattle.ledger.specs.declared.Kind.TheVariants.{Reader, Updater}
-use Rattle.ledger.specs.declared.Verdict.{Verdict}
-use Rattle.ledger.specs.declared.Verdict.TheVariants.{Closed, Restart, Spent, Full, Committed}
-use Rattle.ledger.specs.declared.Call.TheVariants.{Commit, Reclaim}
-use Rattle.ledger.specs.declared.Answer.{Answer}
-use Rattle.ledger.specs.declared.Answer.TheVariants.{Ended, Reclaimed}
-use Rattle.ledger.specs.Ledger.{Limits, Transaction, Version, Ledger, found, is_reader, least_start, horizon, trim_tick, dead, dead_count}
+use Rattle.ledger.specs.declared.Call.TheVariants.{Reclaim}
+use Rattle.ledger.specs.declared.Answer.TheVariants.{Reclaimed}
+use Rattle.ledger.specs.Ledger.{Version, Ledger, least_start, horizon, trim_tick, dead}
 use Rattle.ledger.specs.Calls.{reclaimed, free}
-use Rattle.ledger.specs.Reach.{Reached, next}
-use Rattle.ledger.specs.Orderly.{Dated, Orderly}
+use Rattle.ledger.specs.Reach.{next}
 use Rattle.ledger.proofs.Orders.{dated, orderly, idle}
 use Rattle.versions.specs.Meaning.{Meaning as Store, pruned, pruned_count, free as room}
 use Rattle.validation.specs.Meaning.{Meaning as Stamps, trimmed}
 use Rattle.transactions.specs.declared.table.Table.{Table}
 use Rattle.transactions.specs.View.{active_of}
 use Rattle.transactions.specs.Places.{of_kind}
-use Rattle.engine.specs.Fits.{Fits, Holds, limits_of}
+use Rattle.engine.specs.Fits.{Fits}
 use Rattle.engine.specs.Verdicts.{with_room}
 use Rattle.engine.specs.Serves.{Steps}
 use Rattle.transactions.proofs.Shuffles.{shuffle_least}

@@ -1,15 +1,15 @@
 -- A reclaim: what a prune and a trim leave is what the ledger's reclaim leaves, and the store counts what the ledger counts.
-use Rattle.std.proofs.Common.{◌≡◌, ℕ, suc, ◌+◌, ◌-◌, ◌<◌, ◌≤◌, max, Bool, true, false, cond, not, ◌&&◌, ◌||◌, eqb, ltb, List, [], ◌∷◌, map, length, filter, sym, refl, ap, ◌∙◌, subst, arith}
+use Rattle.std.proofs.Common.{◌≡◌, ℕ, ◌+◌, ◌<◌, ◌≤◌, max, Bool, true, false, cond, not, ◌&&◌, ◌||◌, eqb, ltb, List, [], ◌∷◌, map, length, filter, sym, refl, ap, ◌∙◌, subst, arith}
 use Rattle.std.specs.List.{AllByRecursion as All}
 use Rattle.std.proofs.ByRecursion.{All-weaker}
-use Rattle.std.proofs.lemmas.Bool.{eqb-true, eqb-false, eq-eqb, ne_eqb, ltb-true, ltb-false, lt-ltb, le-ltb, and_left, and_right, both_ways, cases_Bool, cond_both}
-use Rattle.versions.specs.Meaning.{Meaning as Store, kept, dead as outdated, survivors, pruned, pruned_count, sum_below, any as some, free as room}
+use Rattle.std.proofs.lemmas.Bool.{eqb-true, eqb-false, eq-eqb, ne_eqb, ltb-true, ltb-false, lt-ltb, le-ltb, and_left, and_right, both_ways}
+use Rattle.versions.specs.Meaning.{Meaning as Store, kept, dead as outdated, survivors, pruned, pruned_count, sum_below, free as room}
 use Rattle.versions.proofs.Lists.{any_none, sum_none, sum_same, sum_one}
 use Rattle.versions.proofs.Meanings.{dead_and_kept}
-use Rattle.validation.specs.Meaning.{Meaning as Stamps, stamp_at, trimmed}
-use Rattle.ledger.specs.Ledger.{Version, Ledger, horizon, trim_tick, any, superseded, dead, present_count, dead_count}
+use Rattle.validation.specs.Meaning.{Meaning as Stamps, trimmed}
+use Rattle.ledger.specs.Ledger.{Version, Ledger, horizon, trim_tick, superseded, present_count, dead_count}
 use Rattle.ledger.specs.Calls.{granule_stamp, reclaimed, free}
-use Rattle.ledger.specs.Orderly.{Strict, Dated, Tidy, Orderly}
+use Rattle.ledger.specs.Orderly.{Strict, Orderly}
 use Rattle.ledger.proofs.Deaths.{clear, bare_clear, granule_same}
 use Rattle.ledger.proofs.Reclaims.{left_present}
 use Rattle.engine.specs.Fits.{chain_of, kept_stamp, Holds}

@@ -1,9 +1,8 @@
 -- One request more of a list.
-use Rattle.std.proofs.Common.{◌≡◌, ℕ, suc, ◌+◌, ◌-◌, ◌<◌, ◌≤◌, min, List, [], ◌∷◌, ◌++◌, map, length, get_or, take, drop, set, sym, refl, ap, ◌∙◌, subst, ⊎_elim, arith}
+use Rattle.std.proofs.Common.{◌≡◌, ℕ, ◌+◌, ◌-◌, ◌<◌, ◌≤◌, min, List, [], ◌∷◌, ◌++◌, map, length, get_or, take, drop, set, sym, refl, ap, ◌∙◌, subst, ⊎_elim, arith}
 use Rattle.std.proofs.lemmas.List.{take_more, take_more_set, take_all, take_at, drop_at, drop_more, drop_all, drop-set-lt, length-take, length-drop, length-append, map_push, append_assoc, append-nil, nil_from_length, take-append-drop}
 use Rattle.std.proofs.lemmas.Bool.{cases_lt}
 use Rattle.ledger.specs.Ledger.{Limits, new_ledger}
-use Rattle.ledger.specs.declared.Call.{Call}
 use Rattle.ledger.specs.History.{Made}
 use Rattle.versions.specs.Meaning.{Meaning as Store}
 use Rattle.validation.specs.Meaning.{Meaning as Stamps}

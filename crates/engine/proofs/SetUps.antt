@@ -1,7 +1,7 @@
 -- A new engine fits a new ledger.
-use Rattle.std.proofs.Common.{◌≡◌, ℕ, zero, suc, ◌+◌, ◌<◌, ◌≤◌, max, Bool, true, false, cond, not, ◌||◌, eqb, ltb, List, [], ◌∷◌, length, Ok, Err, Result, sym, refl, ap, ◌∙◌, subst, ⊎_elim, arith}
+use Rattle.std.proofs.Common.{◌≡◌, ℕ, zero, suc, ◌<◌, ◌≤◌, Bool, true, false, cond, not, ◌||◌, eqb, ltb, [], length, Ok, Err, Result, sym, refl, ap, ◌∙◌, subst, ⊎_elim, arith}
 use Rattle.std.proofs.lemmas.List.{nil_from_length}
-use Rattle.std.proofs.lemmas.Bool.{eqb-true, eqb-false, ltb-false, or_parts, not-false, cases_eq}
+use Rattle.std.proofs.lemmas.Bool.{eqb-true, eqb-false, ltb-false, cases_eq}
 use Rattle.ledger.specs.declared.Fault.{Fault}
 use Rattle.ledger.specs.declared.Fault.TheVariants.{LastTick, NotFresh}
 use Rattle.ledger.specs.Ledger.{new_ledger}
@@ -13,7 +13,7 @@ use Rattle.transactions.specs.View.{active_of}
 use Rattle.transactions.specs.Notes.{on_ok}
 use Rattle.transactions.specs.Shuffle.{Shuffle, done}
 use Rattle.engine.specs.SetUp.{set_up_answer, last_of}
-use Rattle.engine.specs.Fits.{Fits, Holds, limits_of}
+use Rattle.engine.specs.Fits.{Fits, limits_of}
 
 -- a sum of none
 sum_none : (n : ℕ) (f : ℕ → ℕ) → sum_below n f ≡ 0 → (k : ℕ) → k < n → f k ≡ 0

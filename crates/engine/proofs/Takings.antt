@@ -1,5 +1,5 @@
 -- What begin, read, write and abort do is the ledger's step.
-use Rattle.std.proofs.Common.{◌≡◌, ℕ, zero, suc, ◌+◌, ◌<◌, ◌≤◌, Bool, true, false, cond, not, ◌&&◌, ltb, leb, List, [], ◌∷◌, ◌++◌, map, length, drop, set, Some, None, Ok, Err, Option, Result, sym, refl, ap, ◌∙◌, subst, arith}
+use Rattle.std.proofs.Common.{◌≡◌, ℕ, ◌+◌, ◌<◌, ◌≤◌, Bool, true, false, cond, not, ◌&&◌, ltb, leb, List, ◌∷◌, ◌++◌, map, length, drop, set, Some, Ok, Err, Result, sym, refl, ap, ◌∙◌, subst, arith}
 use Rattle.std.specs.List.{AllByRecursion as All}
 use Rattle.std.proofs.ByRecursion.{All-weaker}
 use Rattle.std.proofs.lemmas.Bool.{leb-true, ltb-false}
@@ -11,13 +11,13 @@ use Rattle.ledger.specs.declared.Fault.TheVariants.{KeyOutside, ShortBuffer, NoT
 use Rattle.ledger.specs.declared.Answer.{Answer}
 use Rattle.ledger.specs.declared.Answer.TheVariants.{Began, Read as ReadDone, Wrote, Aborted, Refused}
 use Rattle.ledger.specs.Ledger.{Transaction, Ledger, found, is_reader, any}
-use Rattle.ledger.specs.Calls.{Outcome, step, refused, with_active, without, changed, fresh, keys_from, seen, joined, wrote, joins, no_room, same_range, in_table}
+use Rattle.ledger.specs.Calls.{Outcome, step, refused, with_active, without, changed, fresh, keys_from, seen, joined, wrote, no_room, same_range}
 use Rattle.versions.specs.Meaning.{Meaning as Store}
 use Rattle.validation.specs.Meaning.{Meaning as Stamps}
 use Rattle.transactions.specs.declared.record.Record.{Record}
 use Rattle.transactions.specs.declared.table.Table.{Table}
 use Rattle.transactions.specs.View.{active_of, view, taken}
-use Rattle.transactions.specs.Notes.{admits, join_answer, then, noted, noted_on, on_ok}
+use Rattle.transactions.specs.Notes.{admits, join_answer, then, noted_on, on_ok}
 use Rattle.transactions.specs.Places.{Here, Released, begin_answer, begun_active}
 use Rattle.engine.specs.Shows.{shown}
 use Rattle.transactions.specs.Shuffle.{Shuffle, keep, join}
@@ -26,7 +26,7 @@ use Rattle.engine.specs.Serves.{Steps, told}
 use Rattle.transactions.proofs.Shuffles.{shuffle_length, shuffle_kept, shuffle_map}
 use Rattle.transactions.proofs.Slots.{slots_free, slots_put, slots_same}
 use Rattle.engine.proofs.Fills.{shown_joined, map_all, keys_below}
-use Rattle.engine.proofs.Fittings.{moved, last_is, limits_are, busy, places_apart, found_same, found_here, shown_seen, keeps_refused, keeps_moved}
+use Rattle.engine.proofs.Fittings.{last_is, limits_are, busy, places_apart, found_same, found_here, shown_seen, keeps_refused, keeps_moved}
 
 -- the ledger's outcome of a call that a record admits or refuses
 abbrev outcome : Ledger → List ℕ → Answer → List ℕ → List Transaction → Result (Unit {0}) Fault → Outcome

@@ -1,5 +1,5 @@
 -- Validation: what the validator names over a read list is the ledger's clash, and a commit is too full where the store says so.
-use Rattle.std.proofs.Common.{◌≡◌, ℕ, zero, suc, ◌+◌, ◌-◌, ◌<◌, ◌≤◌, Bool, true, false, cond, ltb, List, [], ◌∷◌, ◌++◌, length, Some, None, Option, sym, refl, ap, ◌∙◌, subst, arith}
+use Rattle.std.proofs.Common.{◌≡◌, ℕ, zero, suc, ◌+◌, ◌-◌, ◌<◌, ◌≤◌, Bool, true, false, cond, ltb, List, [], ◌∷◌, ◌++◌, Some, Option, sym, refl, ap, ◌∙◌, arith}
 use Rattle.std.specs.List.{AllByRecursion as All}
 use Rattle.std.proofs.lemmas.Bool.{ltb-true, ltb-false, lt-ltb, le-ltb}
 use Rattle.ledger.specs.declared.Range.{Range}
@@ -10,9 +10,9 @@ use Rattle.ledger.proofs.Ways.{Judges, standing, tidied}
 use Rattle.ledger.proofs.Deaths.{dead_count_reclaimed}
 use Rattle.ledger.proofs.Reclaims.{left_present}
 use Rattle.versions.specs.Meaning.{Meaning as Store}
-use Rattle.validation.specs.Meaning.{Meaning as Stamps, stamp_at, first_clash as clash-from, clash_answer}
-use Rattle.engine.specs.Fits.{kept_stamp, Holds}
-use Rattle.engine.specs.Endings.{named, or_else, first_named}
+use Rattle.validation.specs.Meaning.{Meaning as Stamps, stamp_at, first_clash as clash-from}
+use Rattle.engine.specs.Fits.{Holds}
+use Rattle.engine.specs.Endings.{or_else, first_named}
 
 module _ (l : Ledger) (s : Store) (v : Stamps) (has : Holds l s v) (start : ℕ) (untrimmed : l.trimmed ≤ start) where
   -- a stamp that a trim has removed is no clash

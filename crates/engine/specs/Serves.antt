@@ -5,7 +5,7 @@ use Rattle.ledger.specs.declared.Fault.{Fault}
 use Rattle.ledger.specs.declared.Answer.{Answer}
 use Rattle.ledger.specs.declared.Answer.TheVariants.{Refused}
 use Rattle.ledger.specs.Ledger.{Limits, Ledger}
-use Rattle.ledger.specs.Calls.{Outcome, step}
+use Rattle.ledger.specs.Calls.{step}
 use Rattle.ledger.specs.History.{Made, after, Told}
 use Rattle.ledger.specs.Laws.{Lawful}
 use Rattle.versions.specs.Meaning.{Meaning as Store, newest}

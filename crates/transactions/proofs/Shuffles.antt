@@ -1,7 +1,7 @@
 -- Lists with the same elements in another order.
-use Rattle.std.proofs.Common.{◌≡◌, ℕ, suc, ◌≤◌, min, Bool, true, false, cond, not, eqb, ◌⊎◌, List, [], ◌∷◌, ◌++◌, map, length, Some, None, filter, Option, sym, refl, ap, ◌∙◌, subst, inl, inr, arith}
+use Rattle.std.proofs.Common.{◌≡◌, ℕ, suc, min, Bool, true, false, cond, eqb, List, [], ◌∷◌, map, length, Some, filter, sym, refl, ap, ◌∙◌, arith}
 use Rattle.std.specs.List.{AllByRecursion as All}
-use Rattle.std.proofs.lemmas.Bool.{eqb-true, eqb-false, ne_eqb, cases_Bool}
+use Rattle.std.proofs.lemmas.Bool.{eqb-true}
 use Rattle.ledger.specs.declared.Kind.{Kind}
 use Rattle.ledger.specs.Ledger.{Transaction, found, least_start}
 use Rattle.transactions.specs.Shuffle.{Shuffle, done, keep, swap, join}

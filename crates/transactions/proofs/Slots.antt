@@ -1,13 +1,13 @@
 -- What one record more, or one record changed, makes of the active transactions.
-use Rattle.std.proofs.Common.{◌≡◌, ℕ, zero, suc, ◌+◌, ◌<◌, ◌≤◌, min, Bool, true, false, cond, eqb, List, [], ◌∷◌, ◌++◌, length, get_or, set, Some, None, Option, sym, refl, ap, ◌∙◌, subst, arith}
+use Rattle.std.proofs.Common.{◌≡◌, ℕ, zero, suc, ◌<◌, ◌≤◌, min, Bool, true, false, cond, eqb, List, [], ◌∷◌, length, get_or, set, Some, sym, refl, ap, ◌∙◌, subst, arith}
 use Rattle.std.proofs.lemmas.Bool.{ne_eqb, eq-eqb, cond_both}
 use Rattle.std.specs.List.{AllByRecursion as All, slice_get}
 use Rattle.ledger.specs.Calls.{without, changed}
-use Rattle.transactions.specs.Shuffle.{Shuffle, done, keep, swap, join}
+use Rattle.transactions.specs.Shuffle.{Shuffle, keep, swap, join}
 use Rattle.ledger.specs.Orderly.{Apart}
 use Rattle.transactions.proofs.Shuffles.{shuffle_refl}
 use Rattle.ledger.specs.declared.Kind.{Kind}
-use Rattle.ledger.specs.Ledger.{Transaction, found, least_start, is_reader}
+use Rattle.ledger.specs.Ledger.{Transaction, found, least_start}
 use Rattle.transactions.specs.declared.record.State.{State}
 use Rattle.transactions.specs.declared.record.State.TheVariants.{Free, Reader, Updater}
 use Rattle.transactions.specs.declared.record.Record.{Record}

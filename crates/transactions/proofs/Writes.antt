@@ -1,9 +1,8 @@
 -- A write list: where a key stands, and one write more.
-use Rattle.std.proofs.Common.{◌≡◌, ℕ, zero, suc, ◌+◌, ◌<◌, ◌≤◌, Bool, true, false, cond, eqb, List, [], ◌∷◌, ◌++◌, length, get_or, take, set, Some, None, Option, sym, refl, ap, ◌∙◌, subst, arith}
+use Rattle.std.proofs.Common.{◌≡◌, ℕ, zero, suc, ◌<◌, Bool, true, false, cond, eqb, List, [], ◌∷◌, ◌++◌, length, get_or, take, Some, None, refl, ap, arith}
 use Rattle.std.proofs.lemmas.Bool.{ne_eqb, eq-eqb}
 use Rattle.ledger.specs.declared.Write.{Write}
 use Rattle.ledger.specs.Ledger.{own_write, written}
-use Rattle.ledger.specs.Calls.{is_some}
 use Rattle.transactions.specs.Notes.{Stands}
 
 pub own_push : (ws : List Write) (w : Write) (k : ℕ) → own_write k ws ≡ None → (w.key ≡ k → ⊥) → own_write k (ws ++ (w ∷ [])) ≡ None

@@ -1,6 +1,5 @@
 -- What a read or a write makes of a transaction's lists, and why it is refused.
 use Rattle.std.specs.Prelude.{◌≡◌, ℕ, ◌+◌, ◌<◌, Bool, true, cond, not, ◌&&◌, ◌||◌, List, [], ◌∷◌, ◌++◌, length, Some, None, Ok, Err, Option, Result, nat_le, nat_lt, slice_index_or, slice_set}
-use Rattle.ledger.specs.declared.Kind.{Kind}
 use Rattle.ledger.specs.declared.Range.{Range}
 use Rattle.ledger.specs.declared.Write.{Write as Entry}
 use Rattle.ledger.specs.declared.Call.{Call}
@@ -8,7 +7,7 @@ use Rattle.ledger.specs.declared.Call.TheVariants.{Begin, Read, Write, Commit, A
 use Rattle.ledger.specs.declared.Fault.{Fault}
 use Rattle.ledger.specs.declared.Fault.TheVariants.{KeyOutside, ShortBuffer, ReaderWrites, ReadListFull, WriteListFull}
 use Rattle.ledger.specs.Ledger.{Transaction, any, is_reader, own_write, written}
-use Rattle.ledger.specs.Calls.{same_range, joins, joined, wrote, no_room, is_some}
+use Rattle.ledger.specs.Calls.{same_range, joined, wrote, is_some}
 
 -- Lists
 

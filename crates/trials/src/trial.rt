@@ -117,6 +117,7 @@ impl<'a> Trial<'a> {
         let mut buffer = vec![in heap; 0u64; self.setting.places]?;
         let mut lines = Vec::new(heap);
         run(
+            heap,
             self.setting.last,
             store,
             validator,

@@ -1,5 +1,5 @@
 -- What a validator means, and what each call of it answers and leaves.
-use Rattle.std.specs.Prelude.{◌≡◌, ℕ, zero, suc, ◌+◌, ◌<◌, ◌≤◌, max, Bool, true, cond, Some, None, Ok, Err, Option, Result, ◌==◌, nat_le, nat_lt}
+use Rattle.std.specs.Prelude.{ℕ, zero, suc, ◌+◌, ◌<◌, ◌≤◌, max, cond, Some, None, Ok, Err, Option, Result, ◌==◌, nat_le, nat_lt}
 use Rattle.validation.specs.declared.fault.ValidatorFault.{ValidatorFault}
 use Rattle.validation.specs.declared.fault.ValidatorFault.TheVariants.{KeyOutside, StaleStamp}
 

@@ -1,5 +1,5 @@
 -- What a closing of gaps leaves of a log means what a prune leaves of each key.
-use Rattle.std.proofs.Common.{◌≡◌, ℕ, zero, suc, ◌+◌, ◌-◌, ◌<◌, ◌≤◌, Bool, true, false, cond, ◌&&◌, ◌||◌, eqb, ltb, List, [], ◌∷◌, ◌++◌, length, get_or, take, fold, sym, refl, ap, ◌∙◌, ⊎_elim, append_assoc, append-nil, add-one, arith}
+use Rattle.std.proofs.Common.{◌≡◌, ℕ, zero, suc, ◌-◌, ◌<◌, ◌≤◌, Bool, true, false, cond, eqb, ltb, List, [], ◌∷◌, ◌++◌, length, take, fold, sym, refl, ap, ◌∙◌, ⊎_elim, append_assoc, append-nil, add-one, arith}
 use mathlib.Core.Path.{fun_ext}
 use borrow.Rule.Slice.PartMut.{post_of}
 use Rattle.std.specs.List.{AllByRecursion as All, AllWithin}
@@ -8,7 +8,7 @@ use Rattle.std.proofs.ByRecursion.{All-more, All-get_or}
 use Rattle.std.proofs.lemmas.List.{length-take-le, get_or-take, take-append-le, length-append, length-drop}
 use Rattle.stamped.specs.Gaps.{closed}
 use Rattle.versions.specs.declared.store.Version.{Version}
-use Rattle.versions.specs.Meaning.{Meaning, any, survivors, pruned, falls, kept, pruned_count}
+use Rattle.versions.specs.Meaning.{any, survivors, pruned, kept, pruned_count}
 use Rattle.versions.specs.Log.{noted, versions_of, logged, Known, Falling, superseded, blank}
 use Rattle.versions.proofs.Lists.{any_push}
 use Rattle.versions.proofs.Meanings.{cut, survivors_cut, falls_cut, dead_and_kept}

@@ -1,5 +1,5 @@
 -- A packed log: what it means, what a look-up in it finds, and one version more at its end.
-use Rattle.std.proofs.Common.{◌≡◌, ℕ, zero, suc, ◌+◌, ◌-◌, ◌<◌, ◌≤◌, Bool, true, false, cond, ◌&&◌, eqb, leb, List, [], ◌∷◌, ◌++◌, length, get_or, take, set, Some, None, Ok, Err, fold, sym, refl, ap, ◌∙◌, ⊎_elim, add-one, arith}
+use Rattle.std.proofs.Common.{◌≡◌, ℕ, zero, suc, ◌+◌, ◌<◌, ◌≤◌, true, false, cond, eqb, List, [], length, get_or, take, set, Some, None, Ok, sym, refl, ap, ◌∙◌, ⊎_elim, add-one, arith}
 use mathlib.Core.Path.{fun_ext}
 use Rattle.std.specs.List.{AllWithin}
 use Rattle.std.proofs.lemmas.List.Sums.{fold_more, fold_push}
@@ -8,7 +8,7 @@ use Rattle.std.proofs.lemmas.List.{take_more_set, take_all, length-set}
 use Rattle.stamped.specs.declared.looking.Moment.{Moment}
 use Rattle.stamped.specs.Look.{counts, Of, Last}
 use Rattle.versions.specs.declared.store.Version.{Version}
-use Rattle.versions.specs.Meaning.{Meaning, Lawful, first_by, newest, kept, put, falls, sum_below}
+use Rattle.versions.specs.Meaning.{first_by, newest, put, sum_below}
 use Rattle.versions.specs.Log.{noted, versions_of, logged, Known, Falling, moment_answer, blank}
 use Rattle.versions.proofs.Lists.{sum_none, sum_one}
 use Rattle.versions.proofs.Meanings.{falls_more}

@@ -1,12 +1,12 @@
 -- Laws of what a version store means.
-use Rattle.std.proofs.Common.{◌≡◌, ℕ, ◌+◌, ◌-◌, ◌<◌, ◌≤◌, Bool, true, false, cond, not, ◌&&◌, ◌||◌, eqb, ltb, leb, List, [], ◌∷◌, ◌++◌, length, Ok, Err, filter, Result, sym, refl, ap, ◌∙◌, ⊎_elim, arith}
+use Rattle.std.proofs.Common.{◌≡◌, ℕ, ◌+◌, ◌<◌, ◌≤◌, true, false, cond, not, ◌&&◌, ltb, leb, List, [], ◌∷◌, Ok, Err, refl, ⊎_elim, arith}
 use Rattle.std.specs.List.{AllByRecursion as All}
-use Rattle.std.proofs.lemmas.Bool.{lt-ltb, le-ltb, ltb-true, ltb-false, leb-true, leb-false, lt-leb, le-leb, and_parts, cases_Bool, false≢true}
+use Rattle.std.proofs.lemmas.Bool.{lt-ltb, le-ltb, ltb-true, leb-false, lt-leb, le-leb, and_parts, cases_Bool}
 use Rattle.std.proofs.ByRecursion.{All-weaker}
 use Rattle.std.proofs.lemmas.List.Filters.{length-filter_both}
 use Rattle.versions.specs.declared.fault.StoreFault.{StoreFault}
-use Rattle.versions.specs.declared.fault.StoreFault.TheVariants.{Keys, Cells, KeyOutside, Full, StaleStamp}
-use Rattle.versions.specs.Meaning.{Meaning, newest, newest_answer, add_answer, added, put, any, dead, survivors, falls, kept, pruned_count, pruned}
+use Rattle.versions.specs.declared.fault.StoreFault.TheVariants.{KeyOutside, Full, StaleStamp}
+use Rattle.versions.specs.Meaning.{Meaning, newest, newest_answer, add_answer, added, put, dead, survivors, falls, kept, pruned_count, pruned}
 use Rattle.versions.proofs.Lists.{kept_by_same, kept_by_none, any_none, sum_add}
 
 -- falling stamps

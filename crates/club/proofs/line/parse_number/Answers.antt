@@ -5,7 +5,7 @@ use Rattle.club.proofs.line.parse_number.Goals as goal
 use Rattle.club.proofs.line.parse_number.Goals.{then-digit-lt48-via-then-digit-lt48, then-digit-lt48-via-else-digit-lt48+then-digit-gt57}
 
 pub loop-digit-init : goal.loop-digit-init
-loop-digit-init c = (omega arith, number_none c.args.digits.now c.args.most (eqb-false _ _ (sym c.if-is-empty.ensures)))
+loop-digit-init c = (omega arith, number_none c.args.digits.now c.args.most (eqb-false _ _ (sym c.if-is_empty.ensures)))
 
 pub returns-then-digit-lt48 : goal.returns-then-digit-lt48
 returns-then-digit-lt48 c =

@@ -1,4 +1,4 @@
-use Rattle.std.proofs.Common.{◌≡◌, ◌-◌, take, sym, ap, ◌∙◌, arith}
+use Rattle.std.proofs.Common.{◌≡◌, ◌-◌, arith}
 use Rattle.std.proofs.lemmas.List.{take_rest}
 use Rattle.club.proofs.Texts.{in_word_none, in_word_more, word_found, rest_found, word_all, rest_none}
 use Rattle.club.proofs.line.split_word.Goals as goal

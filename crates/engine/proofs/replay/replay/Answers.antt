@@ -2,10 +2,9 @@ use Rattle.std.proofs.Common.{◌≡◌, ◌+◌, ◌-◌, ◌≤◌, ◌++◌, 
 use Rattle.ledger.specs.declared.Kind.TheVariants.{Reader}
 use Rattle.ledger.specs.declared.Call.TheVariants.{Begin}
 use Rattle.ledger.specs.declared.Answer.TheVariants.{Began}
-use Rattle.engine.specs.Fits.{Fits, limits_of}
+use Rattle.engine.specs.Fits.{limits_of}
 use Rattle.engine.specs.SetUp.{last_of}
 use Rattle.engine.specs.Replays.{Replayed}
-use Rattle.ledger.specs.Ledger.{new_ledger}
 use Rattle.engine.proofs.Replayings.{ends_within, gone_none, gone_more, gone_all}
 use Rattle.engine.proofs.replay.replay.Goals as goal
 

@@ -1,4 +1,4 @@
-use Rattle.std.proofs.Common.{◌≡◌, ◌≤◌, length}
+use Rattle.std.proofs.Common.{◌≤◌, length}
 use Rattle.engine.specs.Fits.{limits_of}
 use Rattle.engine.proofs.Replayings.{Gone}
 use Rattle.engine.proofs.replay.replay.Given as goal

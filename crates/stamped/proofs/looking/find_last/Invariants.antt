@@ -1,4 +1,4 @@
-use Rattle.std.proofs.Common.{◌≤◌, length}
+use Rattle.std.proofs.Common.{length}
 use Rattle.std.specs.List.{AllWithin}
 use Rattle.stamped.specs.Look.{Of}
 use Rattle.stamped.proofs.looking.find_last.Given as goal

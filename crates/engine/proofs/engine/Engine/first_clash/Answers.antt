@@ -1,4 +1,4 @@
-use Rattle.std.proofs.Common.{◌≡◌, Some, None, sym, ap, ◌∙◌, arith}
+use Rattle.std.proofs.Common.{Some, None, sym, ap, ◌∙◌, arith}
 use Rattle.engine.specs.Endings.{first_named}
 use Rattle.engine.proofs.Turns.{named_turn, named_end}
 use Rattle.engine.proofs.engine.Engine.first_clash.Goals as goal

@@ -1,4 +1,4 @@
-use Rattle.std.proofs.Common.{refl, arith}
+use Rattle.std.proofs.Common.{arith}
 use Rattle.engine.proofs.Turns.{added_turn, noted_turn, added_end, noted_end}
 use Rattle.engine.proofs.engine.Engine.install.Goals as goal
 

@@ -1,4 +1,4 @@
-use Rattle.std.proofs.Common.{◌≡◌, sym, refl, ap, ◌∙◌}
+use Rattle.std.proofs.Common.{◌≡◌, refl, ap, ◌∙◌}
 use Rattle.transactions.specs.Notes.{on_ok}
 use Rattle.engine.specs.SetUp.{last_of}
 use Rattle.engine.proofs.SetUps.{new_fits}

@@ -1,4 +1,4 @@
-use Rattle.std.proofs.Common.{◌≡◌, sym, refl, ap, ◌∙◌}
+use Rattle.std.proofs.Common.{refl, ap, ◌∙◌}
 use Rattle.ledger.specs.declared.Call.TheVariants.{Write}
 use Rattle.transactions.specs.View.{view}
 use Rattle.transactions.specs.Notes.{admits}

@@ -1,8 +1,7 @@
-use Rattle.std.proofs.Common.{◌≡◌, ◌<◌, ◌≤◌, false, cond, not, ◌&&◌, leb, length, take, sym, refl, ap, ◌∙◌, arith, rules}
+use Rattle.std.proofs.Common.{◌<◌, length, take, sym, ◌∙◌, arith, rules}
 use lib.Seq.{take-set-lt}
 use Rattle.std.proofs.lemmas.List.{take_more_set, length-take-le}
 use Rattle.std.proofs.lemmas.Bool.{le-leb, lt-leb}
-use Rattle.ledger.specs.Calls.{is_some}
 use Rattle.transactions.proofs.Writes.{written_push}
 use Rattle.transactions.proofs.lists.WriteList.put.Goals as goal
 

@@ -1,4 +1,4 @@
-use Rattle.std.proofs.Common.{◌≡◌, sym, refl, ap, ◌∙◌, subst, arith, rules}
+use Rattle.std.proofs.Common.{refl, rules}
 use Rattle.transactions.proofs.table.Table.release.Goals as goal
 
 pub returns-in_default : goal.returns-in_default
