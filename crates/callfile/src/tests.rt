@@ -42,7 +42,7 @@ fn answers_to_the_end(rt: HostRuntime) -> Result<(), Fail> {
     )?;
     assert_eq!(rt;
         lines.as_slice(),
-        b"1 refused 4 7 1\n2 began 1\n3 wrote\n4 committed 2\n5 began 3\n6 read 54 0\n7 refused 4 7 7\n"
+        b"1 refused 4 7 1\n2 began 1\n3 wrote\n4 committed 2\n5 began 3\n6 read 54 0\n7 refused 4 7 7\n".as_slice()
     );
     Ok(())
 }
