@@ -1,6 +1,6 @@
 -- What the lists of a store show is what the ledger shows.
 use Rattle.std.proofs.Common.{◌≡◌, ℕ, ◌+◌, ◌<◌, ◌≤◌, Bool, true, false, cond, ◌&&◌, eqb, ltb, List, [], ◌∷◌, sym, refl, ap, ◌∙◌, ⊎_elim, arith}
-use Rattle.std.specs.List.{AllByRecursion as All}
+use Rattle.std.specs.List.{AllByRecursion}
 use Rattle.std.proofs.ByRecursion.{All-weaker}
 use Rattle.std.proofs.lemmas.Bool.{ltb-false, le-ltb, lt-ltb, eqb-true, eqb-false, ne_eqb, or_cases, or_from, and_left, and_right, both_ways}
 use Rattle.ledger.specs.Ledger.{Version, Ledger, horizon, is_reader, superseded, value_below, newest_value}
@@ -13,7 +13,7 @@ use Rattle.versions.specs.Meaning.{as_of, newest}
 use Rattle.engine.specs.Fits.{chain_of}
 
 -- a version that none of these is newer than is not superseded by them
-newest_lives : (vs : List Version) (h : ℕ) (v : Version) → All (λ w. w.stamp ≤ v.stamp) vs → superseded vs h v ≡ false
+newest_lives : (vs : List Version) (h : ℕ) (v : Version) → AllByRecursion (λ w. w.stamp ≤ v.stamp) vs → superseded vs h v ≡ false
 newest_lives [] h v a = refl
 newest_lives (w ∷ vs) h v a = or_from _ _ (and_right (eqb w.key v.key) _ (and_left (ltb v.stamp w.stamp) (ltb w.stamp h) (le-ltb v.stamp w.stamp a.0))) (newest_lives vs h v a.1)
 
@@ -22,7 +22,7 @@ further : (v x : Version) (vs : List Version) (h : ℕ) → (eqb v.key x.key && 
 further v x vs h off e = ⊎_elim (λ q. absurd (both_ways _ off q)) (λ q. q) (or_cases (eqb v.key x.key && (ltb x.stamp v.stamp && ltb v.stamp h)) (superseded vs h x) e)
 
 -- below a tick that is not below the horizon no version is missed
-value_chain : (k t h : ℕ) (all vs : List Version) → h ≤ t → Falling vs → All (λ v. v.present ≡ false → superseded all h v ≡ true) vs → ((x : Version) → x.key ≡ k → superseded all h x ≡ true → superseded vs h x ≡ true) → value_below k t vs ≡ (as_of t (chain_of k vs)).1
+value_chain : (k t h : ℕ) (all vs : List Version) → h ≤ t → Falling vs → AllByRecursion (λ v. v.present ≡ false → superseded all h v ≡ true) vs → ((x : Version) → x.key ≡ k → superseded all h x ≡ true → superseded vs h x ≡ true) → value_below k t vs ≡ (as_of t (chain_of k vs)).1
 value_chain k t h all [] le fall dead near = refl
 value_chain k t h all (v ∷ vs) le fall dead near = go (eqb v.key k) (ltb v.stamp t) v.present refl refl refl (value_chain k t h all vs le fall.1 dead.1)
   where
@@ -41,7 +41,7 @@ value_chain k t h all (v ∷ vs) le fall dead near = go (eqb v.key k) (ltb v.sta
         ih (λ x q s. further v x vs h (and_left (eqb v.key x.key) _ (ne_eqb v.key x.key (λ z. eqb-false v.key k d (z ∙ q)))) (near x q s))
 
 -- where all stamps are below a tick, the newest is the newest below it
-newest_as_of : (k t : ℕ) (vs : List Version) → All (λ v. v.stamp < t) vs → as_of t (chain_of k vs) ≡ newest (chain_of k vs)
+newest_as_of : (k t : ℕ) (vs : List Version) → AllByRecursion (λ v. v.stamp < t) vs → as_of t (chain_of k vs) ≡ newest (chain_of k vs)
 newest_as_of k t [] a = refl
 newest_as_of k t (v ∷ vs) a = go (eqb v.key k && v.present) (lt-ltb v.stamp t a.0) (newest_as_of k t vs a.1)
   where

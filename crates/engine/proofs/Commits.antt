@@ -1,6 +1,6 @@
 -- Commit: the verdict and what it leaves are the ledger's.
 use Rattle.std.proofs.Common.{◌≡◌, ℕ, ◌+◌, ◌<◌, ◌≤◌, Bool, true, false, cond, ltb, List, length, set, Some, None, sym, refl, ap, ◌∙◌, subst, arith}
-use Rattle.std.specs.List.{AllByRecursion as All}
+use Rattle.std.specs.List.{AllByRecursion}
 use Rattle.std.proofs.lemmas.Bool.{ltb-true, ltb-false, lt-ltb, le-ltb, le-leb, lt-leb, cond-true, cond-false}
 use Rattle.ledger.specs.declared.Write.{Write as Entry}
 use Rattle.ledger.specs.declared.Verdict.{Verdict}
@@ -76,7 +76,7 @@ module _ {l : Ledger} {t₀ : Table} {s₀ : Store} {v₀ : Stamps} (f₀ : Fits
       let m = with_room l (length u.writes) in
       let n = limits_are f on in
       let trims = (all_found (λ x. is_reader x.kind ≡ false → m.trimmed ≤ x.start) m.active u.start u (tidy f.reached).trims here).0 r in
-      clash_named m s v (f.holds on) u.start trims u.reads (subst (λ k. All (λ x. (0 < x.count) × (x.first + x.count ≤ k)) u.reads) (ap (λ x. x.keys) n) fine.ranges)
+      clash_named m s v (f.holds on) u.start trims u.reads (subst (λ k. AllByRecursion (λ x. (0 < x.count) × (x.first + x.count ≤ k)) u.reads) (ap (λ x. x.keys) n) fine.ranges)
       ∙ ap (λ g. first_clash g m.versions u.start (read_keys u.reads)) (sym (ap (λ x. x.granule) n))
 
   -- without a commit only the transaction ends

@@ -1,6 +1,6 @@
 -- A buffer filled with what a transaction reads.
 use Rattle.std.proofs.Common.{◌≡◌, ℕ, zero, suc, ◌+◌, ◌<◌, ◌≤◌, List, [], ◌∷◌, ◌++◌, map, length, get_or, drop, set, sym, refl, ap, ◌∙◌, arith}
-use Rattle.std.specs.List.{AllByRecursion as All}
+use Rattle.std.specs.List.{AllByRecursion}
 use Rattle.std.proofs.lemmas.List.{map-append, append_assoc, set_at, drop_more, length-map}
 use Rattle.std.proofs.lemmas.Bool.{cond_both}
 use Rattle.ledger.specs.Ledger.{Transaction}
@@ -33,10 +33,10 @@ fill_more f k i x old out lt e is =
 pub shown_joined : (s : Store) (u : Transaction) (k n j : ℕ) → shown s (joined u k n) j ≡ shown s u j
 shown_joined s u k n j = cond_both (joins u k n) _ u (λ x. shown s x j ≡ shown s u j) (λ _. refl) (λ _. refl)
 
-pub map_all : {X Y : Type 0} (f g : X → Y) (xs : List X) → All (λ x. f x ≡ g x) xs → map f xs ≡ map g xs
+pub map_all : {X Y : Type 0} (f g : X → Y) (xs : List X) → AllByRecursion (λ x. f x ≡ g x) xs → map f xs ≡ map g xs
 map_all f g [] a = refl
 map_all f g (x ∷ xs) a = rw (a.0, map_all f g xs a.1)
 
-pub keys_below : (k n m : ℕ) → k + n ≤ m → All (λ j. j < m) (keys_from k n)
+pub keys_below : (k n m : ℕ) → k + n ≤ m → AllByRecursion (λ j. j < m) (keys_from k n)
 keys_below k zero m le = tt
 keys_below k (suc n) m le = (omega arith, keys_below (k + 1) n m (omega arith))

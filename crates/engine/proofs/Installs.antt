@@ -1,6 +1,6 @@
 -- A commit: with its writes added and noted, store and validator hold the ledger with its versions.
 use Rattle.std.proofs.Common.{◌≡◌, ℕ, ◌+◌, ◌<◌, ◌≤◌, max, Bool, true, false, cond, ◌&&◌, ◌||◌, eqb, ltb, List, [], ◌∷◌, ◌++◌, length, Some, None, Option, sym, refl, ap, ◌∙◌, subst, arith}
-use Rattle.std.specs.List.{AllByRecursion as All}
+use Rattle.std.specs.List.{AllByRecursion}
 use Rattle.std.proofs.ByRecursion.{All-weaker}
 use Rattle.std.proofs.lemmas.Bool.{eqb-true, ne_eqb, le-ltb, lt-leb, cond_both}
 use Rattle.ledger.specs.declared.Write.{Write}
@@ -23,7 +23,7 @@ abbrev with_own : Option ℕ → ℕ → List (ℕ × ℕ) → List (ℕ × ℕ)
 with_own None c ps = ps
 with_own (Some x) c ps = (c, x) ∷ ps
 
-own_none : (k : ℕ) (ws : List Write) → All (λ u. u.key ≡ k → ⊥) ws → own_write k ws ≡ None
+own_none : (k : ℕ) (ws : List Write) → AllByRecursion (λ u. u.key ≡ k → ⊥) ws → own_write k ws ≡ None
 own_none k [] a = refl
 own_none k (w ∷ ws) a = rw (ne_eqb w.key k a.0) (own_none k ws a.1)
 
@@ -39,18 +39,18 @@ kept_put s k c x lt = sum_one s.keys k (λ j. length (s.versions j)) (λ j. leng
     longer j true = omega arith
     longer j false = omega arith
 
-pub added_all : (c : ℕ) (ws : List Write) (s : Store) → Distinct ws → All (λ w. w.key < s.keys) ws → All (λ w. (newest (s.versions w.key)).0 < c) ws → kept s + length ws ≤ s.cells → Added c ws s (all_added c s ws)
+pub added_all : (c : ℕ) (ws : List Write) (s : Store) → Distinct ws → AllByRecursion (λ w. w.key < s.keys) ws → AllByRecursion (λ w. (newest (s.versions w.key)).0 < c) ws → kept s + length ws ≤ s.cells → Added c ws s (all_added c s ws)
 added_all c [] s d k n r = record { keys = refl; cells = refl; versions = λ k. refl }
 added_all c (w ∷ ws) s d k n r =
     let p = put w.key c w.value s in
     let fine = added_done s w.key c w.value (add_fine s w.key c k.0 n.0 (omega arith)) in
     let more = kept_put s w.key c w.value k.0 in
-    let others : All (λ u. (newest (p.versions u.key)).0 < c) ws = all_two _ _ (λ u. (newest (p.versions u.key)).0 < c) (λ u ne lt. rw (ne_eqb w.key u.key (λ e. ne (sym e))) lt) ws d.0 n.1 in
+    let others : AllByRecursion (λ u. (newest (p.versions u.key)).0 < c) ws = all_two _ _ (λ u. (newest (p.versions u.key)).0 < c) (λ u ne lt. rw (ne_eqb w.key u.key (λ e. ne (sym e))) lt) ws d.0 n.1 in
     let rest = added_all c ws p d.1 k.1 others (omega arith) in
     subst (λ t. Added c (w ∷ ws) s (all_added c t ws)) fine (record { keys = rest.keys; cells = rest.cells; versions = λ j. rest.versions j ∙ here j (eqb w.key j) refl })
   where
     here : (j : ℕ) (b : Bool) → eqb w.key j ≡ b → with_own (own_write j ws) c (cond b ((c, w.value) ∷ s.versions j) (s.versions j)) ≡ with_own (cond b (Some w.value) (own_write j ws)) c (s.versions j)
-    here j true e = rw (own_none j ws (subst (λ i. All (λ u. u.key ≡ i → ⊥) ws) (eqb-true w.key j e) d.0))
+    here j true e = rw (own_none j ws (subst (λ i. AllByRecursion (λ u. u.key ≡ i → ⊥) ws) (eqb-true w.key j e) d.0))
     here j false e = refl
 
 chain_stamped : (k c : ℕ) (ws : List Write) (vs : List Version) → Distinct ws → chain_of k (stamped c ws ++ vs) ≡ with_own (own_write k ws) c (chain_of k vs)
@@ -58,7 +58,7 @@ chain_stamped k c [] vs d = refl
 chain_stamped k c (w ∷ ws) vs d = go (eqb w.key k) refl (chain_stamped k c ws vs d.1)
   where
     go : (b : Bool) → eqb w.key k ≡ b → chain_of k (stamped c ws ++ vs) ≡ with_own (own_write k ws) c (chain_of k vs) → cond (b && true) ((c, w.value) ∷ chain_of k (stamped c ws ++ vs)) (chain_of k (stamped c ws ++ vs)) ≡ with_own (cond b (Some w.value) (own_write k ws)) c (chain_of k vs)
-    go true e ih = let none = own_none k ws (subst (λ i. All (λ u. u.key ≡ i → ⊥) ws) (eqb-true w.key k e) d.0) in ap (λ ps. (c, w.value) ∷ ps) (ih ∙ ap (λ o. with_own o c (chain_of k vs)) none)
+    go true e ih = let none = own_none k ws (subst (λ i. AllByRecursion (λ u. u.key ≡ i → ⊥) ws) (eqb-true w.key k e) d.0) in ap (λ ps. (c, w.value) ∷ ps) (ih ∙ ap (λ o. with_own o c (chain_of k vs)) none)
     go false e ih = ih
 
 -- The validator
@@ -75,7 +75,7 @@ pub record Noted (c : ℕ) (ws : List Write) (v n : Stamps) : Type 0 where
 note_fine : (v : Stamps) (k c : ℕ) → k < v.keys → stamp_at v k ≤ c → with_stamps v (λ g. cond (eqb (v.granule k) g) c (v.stamp g)) ≡ noted v k c
 note_fine v k c lt le = let a = lt-leb v.keys k lt in let b = le-ltb c (stamp_at v k) le in rw (a, b)
 
-pub noted_all : (c : ℕ) (ws : List Write) (v : Stamps) → All (λ w. w.key < v.keys) ws → ((k : ℕ) → k < v.keys → stamp_at v k ≤ c) → Noted c ws v (all_noted c v ws)
+pub noted_all : (c : ℕ) (ws : List Write) (v : Stamps) → AllByRecursion (λ w. w.key < v.keys) ws → ((k : ℕ) → k < v.keys → stamp_at v k ≤ c) → Noted c ws v (all_noted c v ws)
 noted_all c [] v k le = record { keys = refl; granule = refl; stamps = λ k lt. refl }
 noted_all c (w ∷ ws) v k le =
     let n = with_stamps v (λ g. cond (eqb (v.granule w.key) g) c (v.stamp g)) in
@@ -88,7 +88,7 @@ noted_all c (w ∷ ws) v k le =
     here j true false = refl
     here j false t = refl
 
-pub granule_below : (g : ℕ → ℕ) (k c : ℕ) (vs : List Version) → All (λ v. v.stamp ≤ c) vs → granule_stamp g k vs ≤ c
+pub granule_below : (g : ℕ → ℕ) (k c : ℕ) (vs : List Version) → AllByRecursion (λ v. v.stamp ≤ c) vs → granule_stamp g k vs ≤ c
 granule_below g k c [] a = omega arith
 granule_below g k c (v ∷ vs) a = let ih = granule_below g k c vs a.1 in cond_both (eqb (g v.key) (g k)) (max v.stamp (granule_stamp g k vs)) (granule_stamp g k vs) (λ x. x ≤ c) (λ _. omega (arith, a.0)) (λ _. ih)
 
@@ -107,7 +107,7 @@ kept_later : (t c s : ℕ) (b : Bool) → t ≤ c → cond b c (kept_stamp t s) 
 kept_later t c s true le = let e = le-ltb c t le in rw e
 kept_later t c s false le = refl
 
-newest_below : (c : ℕ) (ps : List (ℕ × ℕ)) → All (λ p. p.0 ≤ c) ps → (newest ps).0 ≤ c
+newest_below : (c : ℕ) (ps : List (ℕ × ℕ)) → AllByRecursion (λ p. p.0 ≤ c) ps → (newest ps).0 ≤ c
 newest_below c [] a = omega arith
 newest_below c (p ∷ ps) a = a.0
 
@@ -115,8 +115,8 @@ kept_stamp_le : (t s : ℕ) → kept_stamp t s ≤ s
 kept_stamp_le t s = cond_both (ltb s t) 0 s (λ x. x ≤ s) (λ _. omega arith) (λ _. omega arith)
 
 module _ (l : Ledger) (s : Store) (v : Stamps) (t : Transaction) (order : Orderly l) (has : Holds l s v) (keys : s.keys ≡ l.limits.keys) (cells : s.cells ≡ l.limits.cells) (fine : Fine l.limits l.clock t) (room : length t.writes ≤ free l) where
-  inside : All (λ w. w.key < s.keys) t.writes
-  inside = subst (λ n. All (λ w. w.key < n) t.writes) (sym keys) fine.keys
+  inside : AllByRecursion (λ w. w.key < s.keys) t.writes
+  inside = subst (λ n. AllByRecursion (λ w. w.key < n) t.writes) (sym keys) fine.keys
 
   -- every version is older than the tick that is drawn
   older : (k : ℕ) → k < s.keys → (newest (s.versions k)).0 < l.clock + 1
@@ -126,7 +126,7 @@ module _ (l : Ledger) (s : Store) (v : Stamps) (t : Transaction) (order : Orderl
 
   pub adds : Added (l.clock + 1) t.writes s (all_added (l.clock + 1) s t.writes)
   adds =
-      let known : All (λ u. u.key < s.keys) l.versions = subst (λ n. All (λ u. u.key < n) l.versions) (sym keys) order.dated.keys in
+      let known : AllByRecursion (λ u. u.key < s.keys) l.versions = subst (λ n. AllByRecursion (λ u. u.key < n) l.versions) (sym keys) order.dated.keys in
       let few = kept_is l s v has known in
       added_all (l.clock + 1) t.writes s fine.distinct inside (All-weaker _ _ (λ w lt. older w.key lt) t.writes inside) (omega (arith, few, order.tidy.cells))
 
@@ -136,7 +136,7 @@ module _ (l : Ledger) (s : Store) (v : Stamps) (t : Transaction) (order : Orderl
   pub notes : Noted (l.clock + 1) t.writes v (all_noted (l.clock + 1) v t.writes)
   notes =
       let low : (k : ℕ) → k < v.keys → stamp_at v k ≤ l.clock + 1 = λ k lt. let e = has.stamps k (subst (λ n. k < n) has.same_keys lt) in omega (arith, e, past k, kept_stamp_le l.trimmed (granule_stamp v.granule k l.versions)) in
-      noted_all (l.clock + 1) t.writes v (subst (λ m. All (λ w. w.key < m) t.writes) (sym has.same_keys) inside) low
+      noted_all (l.clock + 1) t.writes v (subst (λ m. AllByRecursion (λ w. w.key < m) t.writes) (sym has.same_keys) inside) low
 
   pub holds_installed : Holds (installed l t) (all_added (l.clock + 1) s t.writes) (all_noted (l.clock + 1) v t.writes)
   holds_installed =

@@ -1,6 +1,6 @@
 -- Reclaim: what was done to store and validator is the ledger's step.
 use Rattle.std.proofs.Common.{◌≡◌, ℕ, ◌+◌, ◌-◌, ◌^◌, ◌<◌, ◌≤◌, min, Bool, ◌&&◌, List, [], length, filter, sym, refl, ap, ◌∙◌, subst, arith}
-use Rattle.std.specs.List.{AllByRecursion as All}
+use Rattle.std.specs.List.{AllByRecursion}
 use Rattle.std.proofs.lemmas.Bool.{lt-ltb, le-ltb}
 use Rattle.ledger.specs.declared.Kind.{Kind}
 use Rattle.ledger.specs.declared.Kind.TheVariants.{Reader, Updater}
@@ -67,7 +67,7 @@ module _ {l : Ledger} {t : Table} {s : Store} {v : Stamps} (f : Fits l t s v) (o
   pub room_is : room s ≡ free l
   room_is =
       let n = limits_are f on in
-      let keys : All (λ u. u.key < s.keys) l.versions = subst (λ k. All (λ u. u.key < k) l.versions) (ap (λ x. x.keys) n) (dated f.reached).keys in
+      let keys : AllByRecursion (λ u. u.key < s.keys) l.versions = subst (λ k. AllByRecursion (λ u. u.key < k) l.versions) (ap (λ x. x.keys) n) (dated f.reached).keys in
       free_is l s v (f.holds on) keys (sym (ap (λ x. x.cells) n))
 
   pub room_enough : (n : ℕ) → n ≤ room s → Fits (with_room l n) t s v

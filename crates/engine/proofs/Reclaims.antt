@@ -1,6 +1,6 @@
 -- A reclaim: what a prune and a trim leave is what the ledger's reclaim leaves, and the store counts what the ledger counts.
 use Rattle.std.proofs.Common.{◌≡◌, ℕ, ◌+◌, ◌<◌, ◌≤◌, max, Bool, true, false, cond, not, ◌&&◌, ◌||◌, eqb, ltb, List, [], ◌∷◌, map, length, filter, sym, refl, ap, ◌∙◌, subst, arith}
-use Rattle.std.specs.List.{AllByRecursion as All}
+use Rattle.std.specs.List.{AllByRecursion}
 use Rattle.std.proofs.ByRecursion.{All-weaker}
 use Rattle.std.proofs.lemmas.Bool.{eqb-true, eqb-false, eq-eqb, ne_eqb, ltb-true, ltb-false, lt-ltb, le-ltb, and_left, and_right, both_ways}
 use Rattle.versions.specs.Meaning.{Meaning as Store, kept, dead as outdated, survivors, pruned, pruned_count, sum_below, free as room}
@@ -20,7 +20,7 @@ use Rattle.engine.specs.Fits.{chain_of, kept_stamp, Holds}
 abbrev kills : ℕ → Version → Version → Bool
 kills h v w = eqb w.key v.key && (ltb v.stamp w.stamp && ltb w.stamp h)
 
-none_later : (h : ℕ) (v : Version) (vs : List Version) → All (λ w. w.key ≡ v.key → w.stamp ≤ v.stamp) vs → superseded vs h v ≡ false
+none_later : (h : ℕ) (v : Version) (vs : List Version) → AllByRecursion (λ w. w.key ≡ v.key → w.stamp ≤ v.stamp) vs → superseded vs h v ≡ false
 none_later h v [] a = refl
 none_later h v (w ∷ vs) a = rw (one (eqb w.key v.key) refl) (none_later h v vs a.1)
   where
@@ -28,22 +28,22 @@ none_later h v (w ∷ vs) a = rw (one (eqb w.key v.key) refl) (none_later h v vs
     one true q = and_left _ _ (le-ltb v.stamp w.stamp (a.0 (eqb-true _ _ q)))
     one false q = refl
 
-pub chain_below : (k c : ℕ) (vs : List Version) → All (λ w. w.key ≡ k → w.stamp ≤ c) vs → All (λ p. p.0 ≤ c) (chain_of k vs)
+pub chain_below : (k c : ℕ) (vs : List Version) → AllByRecursion (λ w. w.key ≡ k → w.stamp ≤ c) vs → AllByRecursion (λ p. p.0 ≤ c) (chain_of k vs)
 chain_below k c [] a = tt
 chain_below k c (w ∷ vs) a = go (eqb w.key k) refl w.present (chain_below k c vs a.1)
   where
-    go : (b : Bool) → eqb w.key k ≡ b → (p : Bool) → All (λ p. p.0 ≤ c) (chain_of k vs) → All (λ p. p.0 ≤ c) (cond (b && p) ((w.stamp, w.value) ∷ chain_of k vs) (chain_of k vs))
+    go : (b : Bool) → eqb w.key k ≡ b → (p : Bool) → AllByRecursion (λ p. p.0 ≤ c) (chain_of k vs) → AllByRecursion (λ p. p.0 ≤ c) (cond (b && p) ((w.stamp, w.value) ∷ chain_of k vs) (chain_of k vs))
     go true q true ih = (a.0 (eqb-true _ _ q), ih)
     go true q false ih = ih
     go false q p ih = ih
 
-chain_none_later : (h k s x : ℕ) (vs : List Version) → All (λ w. w.key ≡ k → w.stamp ≤ s) vs → outdated h (chain_of k vs) (s, x) ≡ false
+chain_none_later : (h k s x : ℕ) (vs : List Version) → AllByRecursion (λ w. w.key ≡ k → w.stamp ≤ s) vs → outdated h (chain_of k vs) (s, x) ≡ false
 chain_none_later h k s x vs a =
     any_none (λ w. ltb s w.0 && ltb w.0 h) (chain_of k vs) (All-weaker _ (λ w. (ltb s w.0 && ltb w.0 h) ≡ false) (λ w le. and_left _ _ (le-ltb s w.0 le)) (chain_of k vs) (chain_below k s vs a))
 
 -- each removed version of the key is superseded
 abbrev Removed : ℕ → ℕ → List Version → List Version → Type 0
-Removed k h all vs = All (λ v. v.key ≡ k → v.present ≡ false → superseded all h v ≡ true) vs
+Removed k h all vs = AllByRecursion (λ v. v.key ≡ k → v.present ≡ false → superseded all h v ≡ true) vs
 
 -- the version is dead in the ledger as in a key's list
 abbrev Agrees : ℕ → List Version → List (ℕ × ℕ) → Version → Type 0
@@ -71,7 +71,7 @@ same_dead k h (x ∷ xs) strict removed v e = go (eqb x.key k) (ltb x.stamp h) x
     first true d q below = rw (eq-eqb x.key v.key (q ∙ sym e), d, below)
     first false d q below =
         let le = ltb-false _ _ d in
-        let older : All (λ w. w.key ≡ k → w.stamp ≤ v.stamp) xs = All-weaker _ _ (λ w lt same. let l = lt (same ∙ sym q) in omega arith) xs strict.0 in
+        let older : AllByRecursion (λ w. w.key ≡ k → w.stamp ≤ v.stamp) xs = All-weaker _ _ (λ w lt same. let l = lt (same ∙ sym q) in omega arith) xs strict.0 in
         rw (eq-eqb x.key v.key (q ∙ sym e), d, none_later h v xs (All-weaker _ _ (λ w l same. l (same ∙ e)) xs older), chain_none_later h k v.stamp v.value xs older)
 
     go : (a b p : Bool) → eqb x.key k ≡ a → ltb x.stamp h ≡ b → x.present ≡ p → (Removed k h xs xs → Agrees h xs (chain_of k xs) v) → Agrees h (x ∷ xs) (cond (a && p) ((x.stamp, x.value) ∷ chain_of k xs) (chain_of k xs)) v
@@ -84,7 +84,7 @@ same_dead k h (x ∷ xs) strict removed v e = go (eqb x.key k) (ltb x.stamp h) x
     go true false false q below is later = skip (λ u same. and_right (eqb x.key u.key) (ltb u.stamp x.stamp && ltb x.stamp h) (and_right (ltb u.stamp x.stamp) (ltb x.stamp h) below)) later
 
 -- what a prune leaves of a key's list is the list of what a reclaim leaves
-chain_left : (k h : ℕ) (all : List Version) (ps : List (ℕ × ℕ)) (vs : List Version) → All (λ v. v.key ≡ k → Agrees h all ps v) vs → filter (λ p. not (outdated h ps p)) (chain_of k vs) ≡ chain_of k (map (clear h all) vs)
+chain_left : (k h : ℕ) (all : List Version) (ps : List (ℕ × ℕ)) (vs : List Version) → AllByRecursion (λ v. v.key ≡ k → Agrees h all ps v) vs → filter (λ p. not (outdated h ps p)) (chain_of k vs) ≡ chain_of k (map (clear h all) vs)
 chain_left k h all ps [] a = refl
 chain_left k h all ps (v ∷ vs) a = go (eqb v.key k) v.present refl (chain_left k h all ps vs a.1)
   where
@@ -93,18 +93,18 @@ chain_left k h all ps (v ∷ vs) a = go (eqb v.key k) v.present refl (chain_left
     go true false q ih = ih
     go false p q ih = ih
 
-pub chain_reclaimed : (k h : ℕ) (vs : List Version) → Strict vs → All (λ v. v.present ≡ false → superseded vs h v ≡ true) vs → survivors h (chain_of k vs) ≡ chain_of k (map (clear h vs) vs)
+pub chain_reclaimed : (k h : ℕ) (vs : List Version) → Strict vs → AllByRecursion (λ v. v.present ≡ false → superseded vs h v ≡ true) vs → survivors h (chain_of k vs) ≡ chain_of k (map (clear h vs) vs)
 chain_reclaimed k h vs strict removed =
     chain_left k h vs (chain_of k vs) vs (each vs (same_dead k h vs strict (All-weaker _ _ (λ v r e. r) vs removed)))
   where
-    each : (us : List Version) → ((v : Version) → v.key ≡ k → Agrees h vs (chain_of k vs) v) → All (λ v. v.key ≡ k → Agrees h vs (chain_of k vs) v) us
+    each : (us : List Version) → ((v : Version) → v.key ≡ k → Agrees h vs (chain_of k vs) v) → AllByRecursion (λ v. v.key ≡ k → Agrees h vs (chain_of k vs) v) us
     each [] f = tt
     each (u ∷ us) f = (f u, each us f)
 
 -- Counts
 
 -- the lists of all keys together are as long as there are versions present
-pub chains_count : (n : ℕ) (vs : List Version) → All (λ v. v.key < n) vs → sum_below n (λ k. length (chain_of k vs)) ≡ length (filter (λ v. v.present) vs)
+pub chains_count : (n : ℕ) (vs : List Version) → AllByRecursion (λ v. v.key < n) vs → sum_below n (λ k. length (chain_of k vs)) ≡ length (filter (λ v. v.present) vs)
 chains_count n [] a = sum_none n
 chains_count n (v ∷ vs) a = go v.present (chains_count n vs a.1)
   where
@@ -120,7 +120,7 @@ chains_count n (v ∷ vs) a = go v.present (chains_count n vs a.1)
     go true ih = let more = sum_one n v.key (λ k. length (chain_of k vs)) (λ k. length (cond (eqb v.key k && true) ((v.stamp, v.value) ∷ chain_of k vs) (chain_of k vs))) a.0 (λ k. longer k (eqb v.key k)) in omega (arith, more, ih)
     go false ih = sum_same n _ _ (λ k lt. same k (eqb v.key k)) ∙ ih
 
-module _ (l : Ledger) (s : Store) (v : Stamps) (has : Holds l s v) (keys : All (λ u. u.key < s.keys) l.versions) where
+module _ (l : Ledger) (s : Store) (v : Stamps) (has : Holds l s v) (keys : AllByRecursion (λ u. u.key < s.keys) l.versions) where
   pub kept_is : kept s ≡ present_count l
   kept_is = sum_same s.keys (λ k. length (s.versions k)) (λ k. length (chain_of k l.versions)) (λ k lt. ap length (has.chains k lt)) ∙ chains_count s.keys l.versions keys
 
@@ -164,11 +164,11 @@ module _ (l : Ledger) (s : Store) (v : Stamps) (order : Orderly l) (has : Holds 
   -- as many versions are dead
   pub dead_is : s.keys ≡ l.limits.keys → pruned_count s (horizon l) ≡ dead_count l
   dead_is e =
-      let keys : All (λ u. u.key < s.keys) l.versions = subst (λ n. All (λ u. u.key < n) l.versions) (sym e) order.dated.keys in
+      let keys : AllByRecursion (λ u. u.key < s.keys) l.versions = subst (λ n. AllByRecursion (λ u. u.key < n) l.versions) (sym e) order.dated.keys in
       let before = kept_is l s v has keys in
       let after = kept_is (reclaimed l) (pruned s (horizon l)) (trimmed v (trim_tick l)) holds_reclaimed (keys_left s.keys l.versions keys) in
       omega (arith, before, after, dead_and_kept s (horizon l), left_present l)
     where
-      keys_left : (n : ℕ) (us : List Version) → All (λ u. u.key < n) us → All (λ u. u.key < n) (map (clear (horizon l) l.versions) us)
+      keys_left : (n : ℕ) (us : List Version) → AllByRecursion (λ u. u.key < n) us → AllByRecursion (λ u. u.key < n) (map (clear (horizon l) l.versions) us)
       keys_left n [] a = tt
       keys_left n (u ∷ us) a = (a.0, keys_left n us a.1)

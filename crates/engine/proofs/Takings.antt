@@ -1,6 +1,6 @@
 -- What begin, read, write and abort do is the ledger's step.
 use Rattle.std.proofs.Common.{◌≡◌, ℕ, ◌+◌, ◌<◌, ◌≤◌, Bool, true, false, cond, not, ◌&&◌, ltb, leb, List, ◌∷◌, ◌++◌, map, length, drop, set, Some, Ok, Err, Result, sym, refl, ap, ◌∙◌, subst, arith}
-use Rattle.std.specs.List.{AllByRecursion as All}
+use Rattle.std.specs.List.{AllByRecursion}
 use Rattle.std.proofs.ByRecursion.{All-weaker}
 use Rattle.std.proofs.lemmas.Bool.{leb-true, ltb-false}
 use Rattle.ledger.specs.declared.Kind.{Kind}
@@ -134,6 +134,6 @@ module _ {l : Ledger} {t : Table} {s : Store} {v : Stamps} (f : Fits l t s v) wh
     pub read_steps : (k n : ℕ) (b b' : List ℕ) → Ok tt ≡ admits s.keys (length b) (view here.at) (Read h k n) → view new ≡ joined (view here.at) k n → b' ≡ map (shown s (view new)) (keys_from k n) ++ drop n b → Steps l (Read h k n) b ReadDone b' (with_record t i new) s v
     read_steps k n b b' e is filled =
         let u = view here.at in
-        let each : All (λ j. shown s (view new) j ≡ seen l u j) (keys_from k n) = All-weaker (λ j. j < s.keys) _ (λ j lt. ap (λ x. shown s x j) is ∙ shown_joined s u k n j ∙ shown_seen f h u (found_here f h i here) j lt) (keys_from k n) (keys_below k n s.keys (admitted_read s.keys (length b) u h k n e).0) in
+        let each : AllByRecursion (λ j. shown s (view new) j ≡ seen l u j) (keys_from k n) = All-weaker (λ j. j < s.keys) _ (λ j lt. ap (λ x. shown s x j) is ∙ shown_joined s u k n j ∙ shown_seen f h u (found_here f h i here) j lt) (keys_from k n) (keys_below k n s.keys (admitted_read s.keys (length b) u h k n e).0) in
         subst (λ x. Steps l (Read h k n) b ReadDone x (with_record t i new) s v) (sym (filled ∙ ap (λ xs. xs ++ drop n b) (map_all _ (seen l u) (keys_from k n) each)))
         (took (Read h k n) b _ ReadDone (λ u. joined u k n) (read_is k n b (Ok tt) e) is)

@@ -1,6 +1,6 @@
 -- Validation: what the validator names over a read list is the ledger's clash, and a commit is too full where the store says so.
 use Rattle.std.proofs.Common.{◌≡◌, ℕ, zero, suc, ◌+◌, ◌-◌, ◌<◌, ◌≤◌, Bool, true, false, cond, ltb, List, [], ◌∷◌, ◌++◌, Some, Option, sym, refl, ap, ◌∙◌, arith}
-use Rattle.std.specs.List.{AllByRecursion as All}
+use Rattle.std.specs.List.{AllByRecursion}
 use Rattle.std.proofs.lemmas.Bool.{ltb-true, ltb-false, lt-ltb, le-ltb}
 use Rattle.ledger.specs.declared.Range.{Range}
 use Rattle.ledger.specs.Ledger.{Ledger, present_count, dead_count}
@@ -35,7 +35,7 @@ module _ (l : Ledger) (s : Store) (v : Stamps) (has : Holds l s v) (start : ℕ)
       out true o = refl
       out false o = refl
 
-  pub clash_named : (rs : List Range) → All (λ r. (0 < r.count) × (r.first + r.count ≤ s.keys)) rs → first_named v start rs ≡ first_clash v.granule l.versions start (read_keys rs)
+  pub clash_named : (rs : List Range) → AllByRecursion (λ r. (0 < r.count) × (r.first + r.count ≤ s.keys)) rs → first_named v start rs ≡ first_clash v.granule l.versions start (read_keys rs)
   clash_named [] a = refl
   clash_named (r ∷ rs) a =
       let inside = le-ltb v.keys (r.first + r.count) (omega (arith, has.same_keys, a.0.1)) in

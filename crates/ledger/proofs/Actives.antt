@@ -1,6 +1,6 @@
 -- The active transactions: looking one up, changing one, taking one out, and their least start.
 use Rattle.std.proofs.Common.{◌≡◌, ℕ, ◌≤◌, min, Bool, true, false, cond, not, eqb, ◌⊎◌, List, [], ◌∷◌, Some, None, filter, Option, sym, refl, ap, ◌∙◌, subst, inl, inr, arith}
-use Rattle.std.specs.List.{AllByRecursion as All}
+use Rattle.std.specs.List.{AllByRecursion}
 use Rattle.std.proofs.ByRecursion.{All-weaker}
 use Rattle.std.proofs.lemmas.Bool.{eqb-true, eqb-false, cond_both}
 use Rattle.ledger.specs.declared.Kind.{Kind}
@@ -38,7 +38,7 @@ pub never : {P : Type 0} {X : Type 0} (x : X) (o : Option X) → o ≡ None → 
 never x o p q = let z : ◌≡◌ {A = ℕ} 0 1 = cc in absurd (omega arith)
 
 -- what holds of each holds of the one that is found
-pub all_found : (P : Transaction → Type 0) (ts : List Transaction) (h : ℕ) (t : Transaction) → All P ts → found ts h ≡ Some t → P t × (t.start ≡ h)
+pub all_found : (P : Transaction → Type 0) (ts : List Transaction) (h : ℕ) (t : Transaction) → AllByRecursion P ts → found ts h ≡ Some t → P t × (t.start ≡ h)
 all_found P [] h t a e = never t None refl e
 all_found P (u ∷ us) h t a e = go (eqb u.start h) refl e (all_found P us h t a.1)
   where
@@ -46,7 +46,7 @@ all_found P (u ∷ us) h t a e = go (eqb u.start h) refl e (all_found P us h t a
     go true d e' later = let i : u ≡ t = cc in (subst P i a.0, ap (λ x. x.start) (sym i) ∙ eqb-true _ _ d)
     go false d e' later = later e'
 
-every : {X : Type 0} (xs : List X) → All (λ _. Unit {0}) xs
+every : {X : Type 0} (xs : List X) → AllByRecursion (λ _. Unit {0}) xs
 every [] = tt
 every (x ∷ xs) = (tt, every xs)
 
@@ -134,7 +134,7 @@ least_le p n [] = omega arith
 least_le p n (t ∷ ts) = let ih = least_le p n ts in cond_both (p t.kind) (min t.start (least_start p n ts)) (least_start p n ts) (λ m. m ≤ n) (λ _. omega arith) (λ _. ih)
 
 -- it is at most each start of its kind
-pub least_each : (p : Kind → Bool) (n : ℕ) (ts : List Transaction) → All (λ t. p t.kind ≡ true → least_start p n ts ≤ t.start) ts
+pub least_each : (p : Kind → Bool) (n : ℕ) (ts : List Transaction) → AllByRecursion (λ t. p t.kind ≡ true → least_start p n ts ≤ t.start) ts
 least_each p n [] = tt
 least_each p n (t ∷ ts) = (λ e. rw e (omega arith), All-weaker _ _ (λ u h e. let le = h e in cond_both (p t.kind) (min t.start (least_start p n ts)) (least_start p n ts) (λ m. m ≤ u.start) (λ _. omega arith) (λ _. omega arith)) ts (least_each p n ts))
 
@@ -148,27 +148,27 @@ least_changed p n (t ∷ ts) h f k =
 -- What holds of each active transaction
 
 -- what depends on handle and kind alone is kept by a change
-pub all_changed_same : (Q : ℕ → Kind → Type 0) (ts : List Transaction) (h : ℕ) (f : Transaction → Transaction) → Keeps f → All (λ t. Q t.start t.kind) ts → All (λ t. Q t.start t.kind) (changed ts h f)
+pub all_changed_same : (Q : ℕ → Kind → Type 0) (ts : List Transaction) (h : ℕ) (f : Transaction → Transaction) → Keeps f → AllByRecursion (λ t. Q t.start t.kind) ts → AllByRecursion (λ t. Q t.start t.kind) (changed ts h f)
 all_changed_same Q [] h f k a = tt
 all_changed_same Q (t ∷ ts) h f k a =
     let c = change_keeps h f k in
     (subst (λ x. Q (change h f t).start x) (sym (c.kind t)) (subst (λ x. Q x t.kind) (sym (c.start t)) a.0), all_changed_same Q ts h f k a.1)
 
-all_others : (P : Transaction → Type 0) (ts : List Transaction) (h : ℕ) (f : Transaction → Transaction) → All (λ u. u.start ≡ h → ⊥) ts → All P ts → All P (changed ts h f)
+all_others : (P : Transaction → Type 0) (ts : List Transaction) (h : ℕ) (f : Transaction → Transaction) → AllByRecursion (λ u. u.start ≡ h → ⊥) ts → AllByRecursion P ts → AllByRecursion P (changed ts h f)
 all_others P [] h f ne a = tt
 all_others P (t ∷ ts) h f ne a = (cond_both (eqb t.start h) (f t) t P (λ e. absurd (ne.0 (eqb-true _ _ e))) (λ _. a.0), all_others P ts h f ne.1 a.1)
 
 -- what holds of each, and of the changed one
-pub all_changed : (P : Transaction → Type 0) (ts : List Transaction) (h : ℕ) (f : Transaction → Transaction) (t : Transaction) → Apart ts → found ts h ≡ Some t → All P ts → P (f t) → All P (changed ts h f)
+pub all_changed : (P : Transaction → Type 0) (ts : List Transaction) (h : ℕ) (f : Transaction → Transaction) (t : Transaction) → Apart ts → found ts h ≡ Some t → AllByRecursion P ts → P (f t) → AllByRecursion P (changed ts h f)
 all_changed P [] h f t apart e a p = tt
 all_changed P (x ∷ ts) h f t apart e a p = go (eqb x.start h) refl e (λ q. all_changed P ts h f t apart.1 q a.1 p)
   where
-    go : (b : Bool) → eqb x.start h ≡ b → cond b (Some x) (found ts h) ≡ Some t → (found ts h ≡ Some t → All P (changed ts h f)) → P (cond b (f x) x) × All P (changed ts h f)
+    go : (b : Bool) → eqb x.start h ≡ b → cond b (Some x) (found ts h) ≡ Some t → (found ts h ≡ Some t → AllByRecursion P (changed ts h f)) → P (cond b (f x) x) × AllByRecursion P (changed ts h f)
     go true d q later =
         let i = some_same t x (Some x) q refl in
-        (subst (λ y. P (f y)) i p, all_others P ts h f (subst (λ s. All (λ u. u.start ≡ s → ⊥) ts) (eqb-true _ _ d) apart.0) a.1)
+        (subst (λ y. P (f y)) i p, all_others P ts h f (subst (λ s. AllByRecursion (λ u. u.start ≡ s → ⊥) ts) (eqb-true _ _ d) apart.0) a.1)
     go false d q later = (a.0, later q)
 
-pub all_two : {X : Type 0} (P Q R : X → Type 0) → ((x : X) → P x → Q x → R x) → (xs : List X) → All P xs → All Q xs → All R xs
+pub all_two : {X : Type 0} (P Q R : X → Type 0) → ((x : X) → P x → Q x → R x) → (xs : List X) → AllByRecursion P xs → AllByRecursion Q xs → AllByRecursion R xs
 all_two P Q R f [] a b = tt
 all_two P Q R f (x ∷ xs) a b = (f x a.0 b.0, all_two P Q R f xs a.1 b.1)

@@ -2,7 +2,7 @@
 use Rattle.std.proofs.Common.{◌≡◌, ℕ, suc, ◌+◌, ◌<◌, ◌≤◌, min, max, Bool, true, false, cond, not, ◌&&◌, ◌||◌, eqb, ltb, List, [], ◌∷◌, ◌++◌, map, length, Some, filter, sym, refl, ap, ◌∙◌, ⊎_elim, arith}
 use Rattle.std.proofs.lemmas.List.{map-append, append_assoc}
 use Rattle.std.proofs.lemmas.Bool.{lt-ltb, ltb-true, and_parts, and_from, or_cases, or_left, or_right, ltb-false, cond_both}
-use Rattle.std.specs.List.{AllByRecursion as All}
+use Rattle.std.specs.List.{AllByRecursion}
 use Rattle.ledger.specs.declared.Kind.{Kind}
 use Rattle.ledger.specs.declared.Call.{Call}
 use Rattle.ledger.specs.Ledger.{Transaction, Version, Ledger, is_reader, least_start, horizon, superseded, dead, present_count, dead_count, value_below, newest_value}
@@ -172,7 +172,7 @@ ages {l = l} reclaiming = ages_reclaimed l
 
 -- Counting: where every removed version is dead, the present ones are the live ones and those dead that are present
 
-count_parts : (d : Version → Bool) (us : List Version) → All (λ v. v.present ≡ false → d v ≡ true) us → length (filter (λ v. v.present) us) ≡ length (filter (λ v. not (d v)) us) + length (filter (λ v. v.present && d v) us)
+count_parts : (d : Version → Bool) (us : List Version) → AllByRecursion (λ v. v.present ≡ false → d v ≡ true) us → length (filter (λ v. v.present) us) ≡ length (filter (λ v. not (d v)) us) + length (filter (λ v. v.present && d v) us)
 count_parts d [] a = omega arith
 count_parts d (v ∷ us) a = go v.present (d v) a.0 (count_parts d us a.1)
   where
@@ -182,11 +182,11 @@ count_parts d (v ∷ us) a = go v.present (d v) a.0 (count_parts d us a.1)
     go false true q ih = omega arith
     go false false q ih = let z : ◌≡◌ {A = ℕ} 0 1 = let e = q refl in cc in absurd (omega arith)
 
-pub live_and_dead : (l : Ledger) → All (λ v. v.present ≡ false → dead l v ≡ true) l.versions → present_count l ≡ live_count l + dead_count l
+pub live_and_dead : (l : Ledger) → AllByRecursion (λ v. v.present ≡ false → dead l v ≡ true) l.versions → present_count l ≡ live_count l + dead_count l
 live_and_dead l a = count_parts (dead l) l.versions a
 
 -- a reclaim leaves present what is live
-count_cleared : (h : ℕ) (all us : List Version) → All (λ v. v.present ≡ false → superseded all h v ≡ true) us → length (filter (λ v. v.present) (map (clear h all) us)) ≡ length (filter (λ v. not (superseded all h v)) us)
+count_cleared : (h : ℕ) (all us : List Version) → AllByRecursion (λ v. v.present ≡ false → superseded all h v ≡ true) us → length (filter (λ v. v.present) (map (clear h all) us)) ≡ length (filter (λ v. not (superseded all h v)) us)
 count_cleared h all [] a = refl
 count_cleared h all (v ∷ us) a = go v.present (superseded all h v) a.0 (count_cleared h all us a.1)
   where
@@ -196,7 +196,7 @@ count_cleared h all (v ∷ us) a = go v.present (superseded all h v) a.0 (count_
     go false true q ih = ih
     go false false q ih = let z : ◌≡◌ {A = ℕ} 0 1 = let e = q refl in cc in absurd (omega arith)
 
-pub present_reclaimed : (l : Ledger) → All (λ v. v.present ≡ false → dead l v ≡ true) l.versions → present_count (reclaimed l) ≡ live_count l
+pub present_reclaimed : (l : Ledger) → AllByRecursion (λ v. v.present ≡ false → dead l v ≡ true) l.versions → present_count (reclaimed l) ≡ live_count l
 present_reclaimed l a = count_cleared (horizon l) l.versions l.versions a
 
 -- after a reclaim nothing dead is present

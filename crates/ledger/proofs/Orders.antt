@@ -1,6 +1,6 @@
 -- Every ledger that calls lead to is orderly, and what follows.
 use Rattle.std.proofs.Common.{◌≡◌, ℕ, ◌+◌, ◌<◌, ◌≤◌, true, false, cond, ◌&&◌, ltb, leb, ◌⊎◌, List, [], ◌∷◌, map, length, Some, None, filter, sym, refl, ap, ◌∙◌, ⊎_elim, arith}
-use Rattle.std.specs.List.{AllByRecursion as All}
+use Rattle.std.specs.List.{AllByRecursion}
 use Rattle.std.proofs.lemmas.Bool.{le-leb, le-ltb}
 use Rattle.ledger.specs.declared.Fault.{Fault}
 use Rattle.ledger.specs.declared.Fault.TheVariants.{TooManyActive, ClockSpent}
@@ -46,11 +46,11 @@ reached n (m ∷ ms) = next m.call m.given (reached n ms)
 pub fine_found : {l : Ledger} → Reached l → (h : ℕ) (t : Transaction) → found l.active h ≡ Some t → Fine l.limits l.clock t × (t.start ≡ h)
 fine_found {l = l} r h t f = all_found (Fine l.limits l.clock) l.active h t (sound r).fine f
 
-no_active : (n : Limits) (c : ℕ) (ts : List Transaction) → c ≤ 0 → All (Fine n c) ts → ts ≡ []
+no_active : (n : Limits) (c : ℕ) (ts : List Transaction) → c ≤ 0 → AllByRecursion (Fine n c) ts → ts ≡ []
 no_active n c [] z a = refl
 no_active n c (t ∷ ts) z a = absurd (omega (arith, a.0.late, a.0.by))
 
-no_versions : (c : ℕ) (vs : List Version) → c ≤ 0 → All (λ v. 0 < v.stamp) vs → All (λ v. v.stamp ≤ c) vs → vs ≡ []
+no_versions : (c : ℕ) (vs : List Version) → c ≤ 0 → AllByRecursion (λ v. 0 < v.stamp) vs → AllByRecursion (λ v. v.stamp ≤ c) vs → vs ≡ []
 no_versions c [] z a b = refl
 no_versions c (v ∷ vs) z a b = absurd (omega (arith, a.0, b.0))
 

@@ -1,6 +1,6 @@
 -- A commit is restarted exactly where the history says.
 use Rattle.std.proofs.Common.{◌≡◌, ℕ, ◌+◌, ◌<◌, ◌≤◌, max, Bool, true, false, cond, not, ◌&&◌, ◌||◌, eqb, ltb, List, [], ◌∷◌, ◌++◌, length, Some, None, Option, sym, refl, ap, ◌∙◌, subst, ⊎_elim, arith}
-use Rattle.std.specs.List.{AllByRecursion as All}
+use Rattle.std.specs.List.{AllByRecursion}
 use Rattle.std.proofs.lemmas.List.{append-nil, append_assoc}
 use Rattle.std.proofs.lemmas.Bool.{eqb-true, eq-eqb, ne_eqb, lt-ltb, le-ltb, cases_eq, cond_both, not-true}
 use Rattle.ledger.specs.declared.Kind.{Kind}
@@ -48,15 +48,15 @@ first_append : (f : ℕ → Option (ℕ × ℕ)) (xs ys : List ℕ) → first_of
 first_append f [] ys = refl
 first_append f (x ∷ xs) ys = ap (or_else (f x)) (first_append f xs ys) ∙ sym (or_else_assoc (f x) (first_of f xs) (first_of f ys))
 
-first_none : (f : ℕ → Option (ℕ × ℕ)) (xs : List ℕ) → All (λ k. f k ≡ None) xs → first_of f xs ≡ None
+first_none : (f : ℕ → Option (ℕ × ℕ)) (xs : List ℕ) → AllByRecursion (λ k. f k ≡ None) xs → first_of f xs ≡ None
 first_none f [] a = refl
 first_none f (x ∷ xs) a = rw a.0 (first_none f xs a.1)
 
-none_first : (f : ℕ → Option (ℕ × ℕ)) (xs : List ℕ) → first_of f xs ≡ None → All (λ k. f k ≡ None) xs
+none_first : (f : ℕ → Option (ℕ × ℕ)) (xs : List ℕ) → first_of f xs ≡ None → AllByRecursion (λ k. f k ≡ None) xs
 none_first f [] e = tt
 none_first f (x ∷ xs) e = go (f x) refl e (none_first f xs)
   where
-    go : (o : Option (ℕ × ℕ)) → f x ≡ o → or_else o (first_of f xs) ≡ None → (first_of f xs ≡ None → All (λ k. f k ≡ None) xs) → (f x ≡ None) × All (λ k. f k ≡ None) xs
+    go : (o : Option (ℕ × ℕ)) → f x ≡ o → or_else o (first_of f xs) ≡ None → (first_of f xs ≡ None → AllByRecursion (λ k. f k ≡ None) xs) → (f x ≡ None) × AllByRecursion (λ k. f k ≡ None) xs
     go None d q later = (d, later q)
     go (Some y) d q later = never y (Some y) q refl
 
@@ -77,7 +77,7 @@ first_joined f u k n upd = go (joins u k n) refl
     go false e =
         let same : joined u k n ≡ u = cond_both (joins u k n) _ u (λ x. x ≡ u) (λ q. let z : ◌≡◌ {A = ℕ} 0 1 = cc in absurd (omega arith)) (λ _. refl) in
         absorbed (first_of f (read_keys u.reads)) (first_of f (keys_from k n)) (λ q.
-        first_none f (keys_from k n) (joined_covers (λ j. f j ≡ None) u k n upd (subst (λ x. All (λ j. f j ≡ None) (read_keys x.reads)) (sym same) (none_first f (read_keys u.reads) q))).1)
+        first_none f (keys_from k n) (joined_covers (λ j. f j ≡ None) u k n upd (subst (λ x. AllByRecursion (λ j. f j ≡ None) (read_keys x.reads)) (sym same) (none_first f (read_keys u.reads) q))).1)
 
 -- What acts read and write
 

@@ -1,6 +1,6 @@
 -- What holds of a story and of the ledger that tells it, call by call.
 use Rattle.std.proofs.Common.{◌≡◌, ℕ, suc, ◌+◌, ◌<◌, ◌≤◌, Bool, true, false, cond, not, ◌&&◌, eqb, ltb, ◌⊎◌, List, [], ◌∷◌, ◌++◌, map, Some, None, Option, unwrap_or, sym, refl, ap, ◌∙◌, subst, ⊎_elim, arith}
-use Rattle.std.specs.List.{AllByRecursion as All}
+use Rattle.std.specs.List.{AllByRecursion}
 use Rattle.std.proofs.lemmas.List.{append_assoc}
 use Rattle.std.proofs.ByRecursion.{All-append, All-weaker}
 use Rattle.std.proofs.lemmas.Bool.{ltb-false, eqb-true, eq-eqb, ne_eqb, cond_both, cases_lt, cases_eq, and_parts, or_cases, not-false}
@@ -28,12 +28,12 @@ Still l h v k = (v k ≡ newest_value k l.versions) × (granule_stamp l.limits.g
 
 pub record Opened (s : Story) (l : Ledger) (h : ℕ) (t : Transaction) : Type 0 where
   pub own : (v : Table) (k : ℕ) → run (s.acts h) v k ≡ unwrap_or (own_write k t.writes) (v k)
-  pub saw : is_reader t.kind ≡ false → (v : Table) → All (Still l h v) (read_keys t.reads) → run_reads (s.acts h) v ≡ s.saw h
+  pub saw : is_reader t.kind ≡ false → (v : Table) → AllByRecursion (Still l h v) (read_keys t.reads) → run_reads (s.acts h) v ≡ s.saw h
   pub none : is_reader t.kind ≡ true → t.writes ≡ []
 
 pub record Inv (s : Story) (l : Ledger) : Type 0 where
   pub fine : Sound l
-  pub stamps : All (λ v. v.stamp ≤ l.clock) l.versions
+  pub stamps : AllByRecursion (λ v. v.stamp ≤ l.clock) l.versions
   pub first : s.stands 0 ≡ None
   pub later : (t : ℕ) → l.clock < t → s.stands t ≡ None
   pub silent : (h : ℕ) → l.clock < h → (s.acts h ≡ []) × (s.saw h ≡ [])
@@ -48,20 +48,20 @@ found_known l s h t e = let p = all_found (Fine l.limits l.clock) l.active h t s
 stands_by : (s : Story) (l : Ledger) → Inv s l → (t h : ℕ) → s.stands t ≡ Some h → t ≤ l.clock
 stands_by s l i t h e = ⊎_elim (λ lt. let z : ◌≡◌ {A = ℕ} 0 1 = let q = i.later t lt in cc in absurd (omega arith)) (λ le. le) (cases_lt l.clock t)
 
-map_all : {X Y : Type 0} (f g : X → Y) (xs : List X) → All (λ x. f x ≡ g x) xs → map f xs ≡ map g xs
+map_all : {X Y : Type 0} (f g : X → Y) (xs : List X) → AllByRecursion (λ x. f x ≡ g x) xs → map f xs ≡ map g xs
 map_all f g [] a = refl
 map_all f g (x ∷ xs) a = rw (a.0, map_all f g xs a.1)
 
-all_left : {X : Type 0} (P : X → Type 0) (xs ys : List X) → All P (xs ++ ys) → All P xs
+all_left : {X : Type 0} (P : X → Type 0) (xs ys : List X) → AllByRecursion P (xs ++ ys) → AllByRecursion P xs
 all_left P [] ys a = tt
 all_left P (x ∷ xs) ys a = (a.0, all_left P xs ys a.1)
 
-all_right : {X : Type 0} (P : X → Type 0) (xs ys : List X) → All P (xs ++ ys) → All P ys
+all_right : {X : Type 0} (P : X → Type 0) (xs ys : List X) → AllByRecursion P (xs ++ ys) → AllByRecursion P ys
 all_right P [] ys a = a
 all_right P (x ∷ xs) ys a = all_right P xs ys a.1
 
 -- fewer active, the same clock, and versions that look the same
-pub inv_less : (s : Story) (l m : Ledger) → Inv s l → Sound m → l.clock ≡ m.clock → l.limits ≡ m.limits → ((h : ℕ) (t : Transaction) → found m.active h ≡ Some t → found l.active h ≡ Some t) → All (λ v. v.stamp ≤ m.clock) m.versions → ((k t : ℕ) → value_below k t l.versions ≡ value_below k t m.versions) → ((k : ℕ) → newest_value k l.versions ≡ newest_value k m.versions) → ((k : ℕ) → granule_stamp m.limits.granule k l.versions ≡ granule_stamp m.limits.granule k m.versions) → Inv s m
+pub inv_less : (s : Story) (l m : Ledger) → Inv s l → Sound m → l.clock ≡ m.clock → l.limits ≡ m.limits → ((h : ℕ) (t : Transaction) → found m.active h ≡ Some t → found l.active h ≡ Some t) → AllByRecursion (λ v. v.stamp ≤ m.clock) m.versions → ((k t : ℕ) → value_below k t l.versions ≡ value_below k t m.versions) → ((k : ℕ) → newest_value k l.versions ≡ newest_value k m.versions) → ((k : ℕ) → granule_stamp m.limits.granule k l.versions ≡ granule_stamp m.limits.granule k m.versions) → Inv s m
 inv_less s l m i fine clock limits less stamps values news grans = record {
   fine = fine;
   stamps = stamps;
@@ -210,26 +210,26 @@ pub read_keys_push : (rs : List Range) (r : Range) → read_keys (rs ++ (r ∷ [
 read_keys_push [] r = refl
 read_keys_push (x ∷ rs) r = ap (λ ks. keys_from x.first x.count ++ ks) (read_keys_push rs r) ∙ sym (append_assoc (keys_from x.first x.count) (read_keys rs) (keys_from r.first r.count ++ []))
 
-any_covers : (P : ℕ → Type 0) (k n : ℕ) (rs : List Range) → any (same_range k n) rs ≡ true → All P (read_keys rs) → All P (keys_from k n)
+any_covers : (P : ℕ → Type 0) (k n : ℕ) (rs : List Range) → any (same_range k n) rs ≡ true → AllByRecursion P (read_keys rs) → AllByRecursion P (keys_from k n)
 any_covers P k n [] e al = let z : ◌≡◌ {A = ℕ} 0 1 = cc in absurd (omega arith)
 any_covers P k n (r ∷ rs) e al = ⊎_elim
     (λ q. let p = and_parts (eqb r.first k) (eqb r.count n) q in
-    subst (λ x. All P (keys_from x n)) (eqb-true _ _ p.0) (subst (λ y. All P (keys_from r.first y)) (eqb-true _ _ p.1) (all_left P (keys_from r.first r.count) (read_keys rs) al)))
+    subst (λ x. AllByRecursion P (keys_from x n)) (eqb-true _ _ p.0) (subst (λ y. AllByRecursion P (keys_from r.first y)) (eqb-true _ _ p.1) (all_left P (keys_from r.first r.count) (read_keys rs) al)))
     (λ q. any_covers P k n rs q (all_right P (keys_from r.first r.count) (read_keys rs) al))
     (or_cases (same_range k n r) (any (same_range k n) rs) e)
 
-pub joined_covers : (P : ℕ → Type 0) (u : Transaction) (k n : ℕ) → is_reader u.kind ≡ false → All P (read_keys (joined u k n).reads) → All P (read_keys u.reads) × All P (keys_from k n)
+pub joined_covers : (P : ℕ → Type 0) (u : Transaction) (k n : ℕ) → is_reader u.kind ≡ false → AllByRecursion P (read_keys (joined u k n).reads) → AllByRecursion P (read_keys u.reads) × AllByRecursion P (keys_from k n)
 joined_covers P u k n upd al = go (joins u k n) refl al
   where
-    go : (j : Bool) → joins u k n ≡ j → All P (read_keys (cond j (record { start = u.start; kind = u.kind; reads = u.reads ++ (record { first = k; count = n } ∷ []); writes = u.writes }) u).reads) → All P (read_keys u.reads) × All P (keys_from k n)
-    go true e q = let r = subst (All P) (read_keys_push u.reads (record { first = k; count = n })) q in (all_left P (read_keys u.reads) _ r, all_left P (keys_from k n) [] (all_right P (read_keys u.reads) (keys_from k n ++ []) r))
+    go : (j : Bool) → joins u k n ≡ j → AllByRecursion P (read_keys (cond j (record { start = u.start; kind = u.kind; reads = u.reads ++ (record { first = k; count = n } ∷ []); writes = u.writes }) u).reads) → AllByRecursion P (read_keys u.reads) × AllByRecursion P (keys_from k n)
+    go true e q = let r = subst (AllByRecursion P) (read_keys_push u.reads (record { first = k; count = n })) q in (all_left P (read_keys u.reads) _ r, all_left P (keys_from k n) [] (all_right P (read_keys u.reads) (keys_from k n ++ []) r))
     go false e q = (q, rest (ltb 0 n) refl)
       where
-        rest : (b : Bool) → ltb 0 n ≡ b → All P (keys_from k n)
+        rest : (b : Bool) → ltb 0 n ≡ b → AllByRecursion P (keys_from k n)
         rest true p =
             let j : (not false && (true && not (any (same_range k n) u.reads))) ≡ false = rw (upd, p) at e in
             any_covers P k n u.reads (not-false _ j) q
-        rest false p = let z : n ≡ 0 = omega (arith, ltb-false 0 n p) in subst (λ m. All P (keys_from k m)) (sym z) tt
+        rest false p = let z : n ≡ 0 = omega (arith, ltb-false 0 n p) in subst (λ m. AllByRecursion P (keys_from k m)) (sym z) tt
 
 eqb_sym : (a b : ℕ) → eqb a b ≡ eqb b a
 eqb_sym a b = ⊎_elim (λ e. eq-eqb a b e ∙ sym (eq-eqb b a (sym e))) (λ ne. ne_eqb a b ne ∙ sym (ne_eqb b a (λ e. ne (sym e)))) (cases_eq a b)
@@ -296,7 +296,7 @@ module _ (s : Story) (l : Ledger) (i : Inv s l) (g : ℕ) (u : Transaction) (f :
         saw = λ r v al.
             let upd : is_reader u.kind ≡ false = ap is_reader (sym kind) ∙ r in
             let c = joined_covers (Still l g v) u k n upd al in
-            let each : All (λ j. run (s.acts g) v j ≡ seen l u j) (keys_from k n) = All-weaker (Still l g v) (λ j. run (s.acts g) v j ≡ seen l u j) (λ j q. o.own v j ∙ ap (unwrap_or (own_write j u.writes)) q.0 ∙ ap (λ b. cond b (value_below j u.start l.versions) (unwrap_or (own_write j u.writes) (newest_value j l.versions))) (sym upd)) (keys_from k n) c.1 in
+            let each : AllByRecursion (λ j. run (s.acts g) v j ≡ seen l u j) (keys_from k n) = All-weaker (Still l g v) (λ j. run (s.acts g) v j ≡ seen l u j) (λ j q. o.own v j ∙ ap (unwrap_or (own_write j u.writes)) q.0 ∙ ap (λ b. cond b (value_below j u.start l.versions) (unwrap_or (own_write j u.writes) (newest_value j l.versions))) (sym upd)) (keys_from k n) c.1 in
             ap (λ ac. run_reads ac v) mine ∙ run_reads_push (s.acts g) (looks k n) v ∙ ap (λ ys. ys ++ (map (run (s.acts g) v) (keys_from k n) ∷ [])) (o.saw upd v c.0) ∙ ap (λ ys. s.saw g ++ (ys ∷ [])) (map_all _ (seen l u) (keys_from k n) each) ∙ sym (saw_mine s l i g u f (looks k n) xs fn (joined_keeps k n));
         none = λ r. joined_writes u k n ∙ o.none (ap is_reader (sym kind) ∙ r);
       })

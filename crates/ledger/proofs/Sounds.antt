@@ -1,6 +1,6 @@
 -- The active transactions of every ledger that is reached are sound.
 use Rattle.std.proofs.Common.{◌≡◌, ℕ, suc, ◌+◌, ◌<◌, ◌≤◌, Bool, true, false, cond, not, ◌&&◌, eqb, ltb, leb, List, [], ◌∷◌, ◌++◌, map, length, Some, filter, sym, refl, ap, ◌∙◌, subst, arith}
-use Rattle.std.specs.List.{AllByRecursion as All}
+use Rattle.std.specs.List.{AllByRecursion}
 use Rattle.std.proofs.ByRecursion.{All-weaker, all_kept_by, All-map, All-push}
 use Rattle.std.proofs.lemmas.List.{length-map, length_push}
 use Rattle.std.proofs.lemmas.Bool.{eqb-true, eqb-false, leb-false, ltb-true, cond_both, and_parts, not-true, both_ways}
@@ -26,7 +26,7 @@ apart_map f keeps (t ∷ ts) a =
     (All-map _ f ts (All-weaker _ (λ u. (f u).start ≡ (f t).start → ⊥) (λ u ne e. ne (sym (keeps u) ∙ e ∙ keeps t)) ts a.0), apart_map f keeps ts a.1)
 
 abbrev Actives : Limits → ℕ → List Transaction → Type 0
-Actives n c ts = All (Fine n c) ts × Apart ts × (length ts ≤ 16)
+Actives n c ts = AllByRecursion (Fine n c) ts × Apart ts × (length ts ≤ 16)
 
 actives_without : (n : Limits) (c : ℕ) (ts : List Transaction) (h : ℕ) → Actives n c ts → Actives n c (without ts h)
 actives_without n c ts h a = let le = length_kept (λ t. not (eqb t.start h)) ts in (all_kept_by _ _ ts a.0, apart_kept _ ts a.1, omega (arith, a.2))
@@ -80,14 +80,14 @@ few_written ws k x few room = rw length_written (go (is_some (own_write k ws)) r
     go true e = few
     go false e = leb-false 32 (length ws) e
 
-all_written : (P : Write → Type 0) (ws : List Write) (k x : ℕ) → P (record { key = k; value = x }) → All P ws → All P (written ws k x)
+all_written : (P : Write → Type 0) (ws : List Write) (k x : ℕ) → P (record { key = k; value = x }) → AllByRecursion P ws → AllByRecursion P (written ws k x)
 all_written P [] k x p a = (p, tt)
-all_written P (w ∷ ws) k x p a = cond_both (eqb w.key k) (record { key = k; value = x } ∷ ws) (w ∷ written ws k x) (All P) (λ _. (p, a.1)) (λ _. (a.0, all_written P ws k x p a.1))
+all_written P (w ∷ ws) k x p a = cond_both (eqb w.key k) (record { key = k; value = x } ∷ ws) (w ∷ written ws k x) (AllByRecursion P) (λ _. (p, a.1)) (λ _. (a.0, all_written P ws k x p a.1))
 
 distinct_written : (ws : List Write) (k x : ℕ) → Distinct ws → Distinct (written ws k x)
 distinct_written [] k x d = (tt, tt)
 distinct_written (w ∷ ws) k x d = cond_both (eqb w.key k) (record { key = k; value = x } ∷ ws) (w ∷ written ws k x) Distinct
-    (λ e. (subst (λ j. All (λ u. u.key ≡ j → ⊥) ws) (eqb-true w.key k e) d.0, d.1))
+    (λ e. (subst (λ j. AllByRecursion (λ u. u.key ≡ j → ⊥) ws) (eqb-true w.key k e) d.0, d.1))
     (λ e. (all_written (λ u. u.key ≡ w.key → ⊥) ws k x (λ q. eqb-false w.key k e (sym q)) d.0, distinct_written ws k x d.1))
 
 fine_wrote : (n : Limits) (c : ℕ) (t : Transaction) (k x : ℕ) → Fine n c t → is_reader t.kind ≡ false → k + 1 ≤ n.keys → no_room t k ≡ false → Fine n c (wrote t k x)
@@ -103,7 +103,7 @@ fine_wrote n c t k x b upd inside room = record {
 }
 
 -- the next handle is new
-next_apart : (n : Limits) (c : ℕ) (ts : List Transaction) → All (Fine n c) ts → All (λ u. u.start ≡ c + 1 → ⊥) ts
+next_apart : (n : Limits) (c : ℕ) (ts : List Transaction) → AllByRecursion (Fine n c) ts → AllByRecursion (λ u. u.start ≡ c + 1 → ⊥) ts
 next_apart n c ts a = All-weaker (Fine n c) _ (λ u b e. omega (arith, b.by)) ts a
 
 pub writes_keeps : (k x : ℕ) → Keeps (λ u. wrote u k x)

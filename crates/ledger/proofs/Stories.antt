@@ -1,6 +1,6 @@
 -- What a history shows, apart from the history: who did what, what it saw, and who stands where.
 use Rattle.std.proofs.Common.{◌≡◌, ℕ, zero, suc, ◌<◌, ◌≤◌, max, Bool, true, false, cond, ◌&&◌, eqb, ltb, List, [], ◌∷◌, ◌++◌, Some, None, Option, unwrap_or, sym, refl, ap, ◌∙◌, arith}
-use Rattle.std.specs.List.{AllByRecursion as All}
+use Rattle.std.specs.List.{AllByRecursion}
 use Rattle.std.proofs.lemmas.List.{append-nil, append_assoc}
 use Rattle.std.proofs.lemmas.Bool.{ltb-false, le-ltb, lt-ltb, eqb-true, eqb-false}
 use Rattle.ledger.specs.declared.Write.{Write as Entry}
@@ -37,7 +37,7 @@ tab_same s z zero e = refl
 tab_same s z (suc t) e = ap (run (acts_at s (s.stands (suc t)))) (tab_same s z t (λ n v le. e n v (omega arith))) ∙ e t (tab z t) (omega arith)
 
 -- the newest value is the newest below any tick past all stamps
-pub value_newest : (k c t : ℕ) (vs : List Version) → All (λ v. v.stamp ≤ c) vs → c < t → value_below k t vs ≡ newest_value k vs
+pub value_newest : (k c t : ℕ) (vs : List Version) → AllByRecursion (λ v. v.stamp ≤ c) vs → c < t → value_below k t vs ≡ newest_value k vs
 value_newest k c t [] a lt = refl
 value_newest k c t (v ∷ vs) a lt = go (eqb v.key k) (lt-ltb v.stamp t (omega (arith, a.0))) (value_newest k c t vs a.1 lt)
   where
@@ -72,11 +72,11 @@ granule_kept g k c h (w ∷ ws) vs lt le = go (eqb (g w.key) (g k)) (eqb w.key k
     go false true d e q ih = absurd (eqb-false (g w.key) (g k) d (ap g (eqb-true w.key k e)))
     go false false d e q ih = ih q
 
-pub no_clash : (g : ℕ → ℕ) (vs : List Version) (s : ℕ) (ks : List ℕ) → first_clash g vs s ks ≡ None → All (λ k. granule_stamp g k vs ≤ s) ks
+pub no_clash : (g : ℕ → ℕ) (vs : List Version) (s : ℕ) (ks : List ℕ) → first_clash g vs s ks ≡ None → AllByRecursion (λ k. granule_stamp g k vs ≤ s) ks
 no_clash g vs s [] e = tt
 no_clash g vs s (k ∷ ks) e = go (ltb s (granule_stamp g k vs)) refl e (no_clash g vs s ks)
   where
-    go : (b : Bool) → ltb s (granule_stamp g k vs) ≡ b → cond b (Some (k, granule_stamp g k vs)) (first_clash g vs s ks) ≡ None → (first_clash g vs s ks ≡ None → All (λ j. granule_stamp g j vs ≤ s) ks) → (granule_stamp g k vs ≤ s) × All (λ j. granule_stamp g j vs ≤ s) ks
+    go : (b : Bool) → ltb s (granule_stamp g k vs) ≡ b → cond b (Some (k, granule_stamp g k vs)) (first_clash g vs s ks) ≡ None → (first_clash g vs s ks ≡ None → AllByRecursion (λ j. granule_stamp g j vs ≤ s) ks) → (granule_stamp g k vs ≤ s) × AllByRecursion (λ j. granule_stamp g j vs ≤ s) ks
     go true d q ih = let z : ◌≡◌ {A = ℕ} 0 1 = cc in absurd (omega arith)
     go false d q ih = (ltb-false s (granule_stamp g k vs) d, ih q)
 

@@ -1,6 +1,6 @@
 -- In every ledger that is reached a removed version is dead, the cells hold what is present, and no trim goes too far.
 use Rattle.std.proofs.Common.{◌≡◌, ℕ, ◌+◌, ◌≤◌, max, Bool, true, false, not, ◌&&◌, List, [], ◌∷◌, ◌++◌, length, filter, refl, ap, ◌∙◌, arith}
-use Rattle.std.specs.List.{AllByRecursion as All}
+use Rattle.std.specs.List.{AllByRecursion}
 use Rattle.std.proofs.ByRecursion.{All-append, All-weaker, All-map, all_kept_by}
 use Rattle.ledger.specs.declared.Call.{Call}
 use Rattle.ledger.specs.declared.Write.{Write as Entry}
@@ -14,7 +14,7 @@ use Rattle.ledger.proofs.Deaths.{clear, dead_later, dead_reclaimed, present_tidy
 use Rattle.ledger.proofs.Ways.{Judges, standing, tidied, Way, refusing, beginning, reading, writing, closing, losing, committing, aborting, reclaiming}
 
 abbrev Trims : ℕ → List Transaction → Type 0
-Trims n ts = All (λ t. is_reader t.kind ≡ false → n ≤ t.start) ts
+Trims n ts = AllByRecursion (λ t. is_reader t.kind ≡ false → n ≤ t.start) ts
 
 -- other active transactions, at a clock and a horizon that did not fall
 tidy_moved : (l : Ledger) (c : ℕ) (ts : List Transaction) → Tidy l → l.clock ≤ c → horizon l ≤ least_start is_reader (c + 1) ts → Trims l.trimmed ts → Tidy (record { limits = l.limits; clock = c; active = ts; versions = l.versions; trimmed = l.trimmed })

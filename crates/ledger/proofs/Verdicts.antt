@@ -1,6 +1,6 @@
 -- What an updater's commit answers, told of the versions: which restarts and which fulls there are.
 use Rattle.std.proofs.Common.{◌≡◌, ℕ, ◌+◌, ◌-◌, ◌<◌, ◌≤◌, max, Bool, true, false, cond, not, ◌&&◌, eqb, ltb, List, [], ◌∷◌, ◌++◌, length, Some, None, Option, sym, refl, ap, ◌∙◌, subst, arith}
-use Rattle.std.specs.List.{AllByRecursion as All}
+use Rattle.std.specs.List.{AllByRecursion}
 use Rattle.std.proofs.lemmas.Bool.{ltb-true, ltb-false, le-ltb, cond_both}
 use Rattle.ledger.specs.declared.Write.{Write as Entry}
 use Rattle.ledger.specs.declared.Verdict.TheVariants.{Closed, Restart, Spent, Full, Committed}
@@ -103,7 +103,7 @@ first_past g vs s (k ∷ ks) x e = go (ltb s (granule_stamp g k vs)) refl e (fir
         subst (λ y. (s < y.1) × (y.1 ≡ granule_stamp g y.0 vs)) i (ltb-true s (granule_stamp g k vs) d, refl)
     go false d q later = later q
 
-pub granule_le : (g : ℕ → ℕ) (k c : ℕ) (vs : List Version) → All (λ v. v.stamp ≤ c) vs → granule_stamp g k vs ≤ c
+pub granule_le : (g : ℕ → ℕ) (k c : ℕ) (vs : List Version) → AllByRecursion (λ v. v.stamp ≤ c) vs → granule_stamp g k vs ≤ c
 granule_le g k c [] a = omega arith
 granule_le g k c (v ∷ vs) a = let ih = granule_le g k c vs a.1 in cond_both (eqb (g v.key) (g k)) (max v.stamp (granule_stamp g k vs)) (granule_stamp g k vs) (λ x. x ≤ c) (λ _. omega (arith, a.0)) (λ _. ih)
 

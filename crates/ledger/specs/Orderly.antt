@@ -1,18 +1,18 @@
 -- What holds of every ledger that calls lead to.
 use Rattle.std.specs.Prelude.{◌≡◌, ℕ, ◌+◌, ◌<◌, ◌≤◌, true, false, List, [], ◌∷◌, length, ◌≢◌}
-use Rattle.std.specs.List.{AllByRecursion as All}
+use Rattle.std.specs.List.{AllByRecursion}
 use Rattle.ledger.specs.declared.Write.{Write}
 use Rattle.ledger.specs.Ledger.{Limits, Transaction, Version, Ledger, is_reader, dead, present_count}
 
 -- no two have one handle
 abbrev pub Apart : List Transaction → Type 0
 Apart [] = Unit {0}
-Apart (t ∷ ts) = All (λ u. u.start ≢ t.start) ts × Apart ts
+Apart (t ∷ ts) = AllByRecursion (λ u. u.start ≢ t.start) ts × Apart ts
 
 -- no two writes are of one key
 abbrev pub Distinct : List Write → Type 0
 Distinct [] = Unit {0}
-Distinct (w ∷ ws) = All (λ u. u.key ≢ w.key) ws × Distinct ws
+Distinct (w ∷ ws) = AllByRecursion (λ u. u.key ≢ w.key) ws × Distinct ws
 
 -- a transaction that began at a tick drawn, its lists within their limits and its keys in the table
 pub record Fine (n : Limits) (clock : ℕ) (t : Transaction) : Type 0 where
@@ -20,41 +20,41 @@ pub record Fine (n : Limits) (clock : ℕ) (t : Transaction) : Type 0 where
   pub by : t.start ≤ clock
   pub few_reads : length t.reads ≤ 32
   pub few_writes : length t.writes ≤ 32
-  pub ranges : All (λ r. (0 < r.count) × (r.first + r.count ≤ n.keys)) t.reads
-  pub keys : All (λ w. w.key < n.keys) t.writes
+  pub ranges : AllByRecursion (λ r. (0 < r.count) × (r.first + r.count ≤ n.keys)) t.reads
+  pub keys : AllByRecursion (λ w. w.key < n.keys) t.writes
   pub distinct : Distinct t.writes
   pub reads_only : is_reader t.kind ≡ true → (t.reads ≡ []) × (t.writes ≡ [])
 
 pub record Sound (l : Ledger) : Type 0 where
-  pub fine : All (Fine l.limits l.clock) l.active
+  pub fine : AllByRecursion (Fine l.limits l.clock) l.active
   pub apart : Apart l.active
   pub few : length l.active ≤ 16
 
 -- newest first
 abbrev pub Falling : List Version → Type 0
 Falling [] = Unit {0}
-Falling (v ∷ vs) = All (λ w. w.stamp ≤ v.stamp) vs × Falling vs
+Falling (v ∷ vs) = AllByRecursion (λ w. w.stamp ≤ v.stamp) vs × Falling vs
 
 -- no two versions of one key have one stamp
 abbrev pub Strict : List Version → Type 0
 Strict [] = Unit {0}
-Strict (v ∷ vs) = All (λ w. w.key ≡ v.key → w.stamp < v.stamp) vs × Strict vs
+Strict (v ∷ vs) = AllByRecursion (λ w. w.key ≡ v.key → w.stamp < v.stamp) vs × Strict vs
 
 pub record Dated (l : Ledger) : Type 0 where
   pub ticks : l.clock ≤ l.limits.last
-  pub late : All (λ v. 0 < v.stamp) l.versions
-  pub stamps : All (λ v. v.stamp ≤ l.clock) l.versions
-  pub keys : All (λ v. v.key < l.limits.keys) l.versions
+  pub late : AllByRecursion (λ v. 0 < v.stamp) l.versions
+  pub stamps : AllByRecursion (λ v. v.stamp ≤ l.clock) l.versions
+  pub keys : AllByRecursion (λ v. v.key < l.limits.keys) l.versions
   pub falling : Falling l.versions
   pub strict : Strict l.versions
   -- a start is no stamp
-  pub unlike : All (λ t. All (λ v. v.stamp ≢ t.start) l.versions) l.active
+  pub unlike : AllByRecursion (λ t. AllByRecursion (λ v. v.stamp ≢ t.start) l.versions) l.active
 
 pub record Tidy (l : Ledger) : Type 0 where
-  pub removed : All (λ v. v.present ≡ false → dead l v ≡ true) l.versions
+  pub removed : AllByRecursion (λ v. v.present ≡ false → dead l v ≡ true) l.versions
   pub cells : present_count l ≤ l.limits.cells
   -- no stamp that an active updater could clash with is trimmed away
-  pub trims : All (λ t. is_reader t.kind ≡ false → l.trimmed ≤ t.start) l.active
+  pub trims : AllByRecursion (λ t. is_reader t.kind ≡ false → l.trimmed ≤ t.start) l.active
   pub trimmed_by : l.trimmed ≤ l.clock + 1
 
 pub record Orderly (l : Ledger) : Type 0 where

@@ -1,6 +1,6 @@
 -- Lists with the same elements in another order.
 use Rattle.std.proofs.Common.{◌≡◌, ℕ, suc, min, Bool, true, false, cond, eqb, List, [], ◌∷◌, map, length, Some, filter, sym, refl, ap, ◌∙◌, arith}
-use Rattle.std.specs.List.{AllByRecursion as All}
+use Rattle.std.specs.List.{AllByRecursion}
 use Rattle.std.proofs.lemmas.Bool.{eqb-true}
 use Rattle.ledger.specs.declared.Kind.{Kind}
 use Rattle.ledger.specs.Ledger.{Transaction, found, least_start}
@@ -37,7 +37,7 @@ shuffle_length (keep s) = ap suc (shuffle_length s)
 shuffle_length swap = refl
 shuffle_length (join r s) = shuffle_length r ∙ shuffle_length s
 
-pub shuffle_all : {X : Type 0} (P : X → Type 0) {xs ys : List X} → Shuffle xs ys → All P xs → All P ys
+pub shuffle_all : {X : Type 0} (P : X → Type 0) {xs ys : List X} → Shuffle xs ys → AllByRecursion P xs → AllByRecursion P ys
 shuffle_all P done h = tt
 shuffle_all P (keep s) h = (h.0, shuffle_all P s h.1)
 shuffle_all P swap h = (h.1.0, (h.0, h.1.1))

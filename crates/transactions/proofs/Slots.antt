@@ -1,7 +1,7 @@
 -- What one record more, or one record changed, makes of the active transactions.
 use Rattle.std.proofs.Common.{◌≡◌, ℕ, zero, suc, ◌<◌, ◌≤◌, min, Bool, true, false, cond, eqb, List, [], ◌∷◌, length, get_or, set, Some, sym, refl, ap, ◌∙◌, subst, arith}
 use Rattle.std.proofs.lemmas.Bool.{ne_eqb, eq-eqb, cond_both}
-use Rattle.std.specs.List.{AllByRecursion as All, slice_get}
+use Rattle.std.specs.List.{AllByRecursion, slice_get}
 use Rattle.ledger.specs.Calls.{without, changed}
 use Rattle.transactions.specs.Shuffle.{Shuffle, keep, swap, join}
 use Rattle.ledger.specs.Orderly.{Apart}
@@ -46,23 +46,23 @@ slots_open (u ∷ rs) (suc i) at r e free on = go (taken u.state) (slots_open rs
     go false ih = ih
 
 -- what holds of each active transaction holds of the one in a place
-slots_at : (P : Transaction → Type 0) (rs : List Record) (i : ℕ) (at : Record) → slice_get rs i ≡ Some at → taken at.state ≡ true → All P (active_of rs) → P (view at)
+slots_at : (P : Transaction → Type 0) (rs : List Record) (i : ℕ) (at : Record) → slice_get rs i ≡ Some at → taken at.state ≡ true → AllByRecursion P (active_of rs) → P (view at)
 slots_at P [] i at e on a = let z : ◌≡◌ {A = ℕ} 0 1 = cc in absurd (omega arith)
 slots_at P (u ∷ rs) zero at e on a =
     let same : u ≡ at = cc in
-    subst (λ x. P (view x)) same (subst (All P) (active_taken u rs (ap (λ x. taken x.state) same ∙ on)) a).0
+    subst (λ x. P (view x)) same (subst (AllByRecursion P) (active_taken u rs (ap (λ x. taken x.state) same ∙ on)) a).0
 slots_at P (u ∷ rs) (suc i) at e on a = go (taken u.state) a (slots_at P rs i at e on)
   where
-    go : (b : Bool) → All P (cond b (view u ∷ active_of rs) (active_of rs)) → (All P (active_of rs) → P (view at)) → P (view at)
+    go : (b : Bool) → AllByRecursion P (cond b (view u ∷ active_of rs) (active_of rs)) → (AllByRecursion P (active_of rs) → P (view at)) → P (view at)
     go true q later = later q.1
     go false q later = later q
 
 -- a change of the one place that holds a handle, as `f` changes the list of its transaction alone
-kept_apart : (ts : List Transaction) (h : ℕ) → All (λ u. u.start ≡ h → ⊥) ts → without ts h ≡ ts
+kept_apart : (ts : List Transaction) (h : ℕ) → AllByRecursion (λ u. u.start ≡ h → ⊥) ts → without ts h ≡ ts
 kept_apart [] h a = refl
 kept_apart (t ∷ ts) h a = rw (ne_eqb t.start h a.0) (ap (λ us. t ∷ us) (kept_apart ts h a.1))
 
-changed_apart : (ts : List Transaction) (h : ℕ) (f : Transaction → Transaction) → All (λ u. u.start ≡ h → ⊥) ts → changed ts h f ≡ ts
+changed_apart : (ts : List Transaction) (h : ℕ) (f : Transaction → Transaction) → AllByRecursion (λ u. u.start ≡ h → ⊥) ts → changed ts h f ≡ ts
 changed_apart [] h f a = refl
 changed_apart (u ∷ ts) h f a = rw (ne_eqb u.start h a.0) (ap (λ us. u ∷ us) (changed_apart ts h f a.1))
 

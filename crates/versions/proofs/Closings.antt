@@ -2,7 +2,7 @@
 use Rattle.std.proofs.Common.{◌≡◌, ℕ, zero, suc, ◌-◌, ◌<◌, ◌≤◌, Bool, true, false, cond, eqb, ltb, List, [], ◌∷◌, ◌++◌, length, take, fold, sym, refl, ap, ◌∙◌, ⊎_elim, append_assoc, append-nil, add-one, arith}
 use mathlib.Core.Path.{fun_ext}
 use borrow.Rule.Slice.PartMut.{post_of}
-use Rattle.std.specs.List.{AllByRecursion as All, AllWithin}
+use Rattle.std.specs.List.{AllByRecursion, AllWithin}
 use Rattle.std.proofs.lemmas.Bool.{eq-eqb, ne_eqb, cases_Bool, cases_eq}
 use Rattle.std.proofs.ByRecursion.{All-more, All-get_or}
 use Rattle.std.proofs.lemmas.List.{length-take-le, get_or-take, take-append-le, length-append, length-drop}
@@ -83,7 +83,7 @@ versions_closed h (x ∷ xs) k =
     (cases_Bool (superseded h x xs)))
     (cases_eq x.key k)
 
-all_closed : {X : Type 0} (P : X → Type 0) (drops : X → List X → Bool) (xs : List X) → All P xs → All P (closed drops xs)
+all_closed : {X : Type 0} (P : X → Type 0) (drops : X → List X → Bool) (xs : List X) → AllByRecursion P xs → AllByRecursion P (closed drops xs)
 all_closed P drops [] a = tt
 all_closed P drops (x ∷ xs) a =
     ⊎_elim
@@ -91,13 +91,13 @@ all_closed P drops (x ∷ xs) a =
     (λ (t : drops x xs ≡ false). rw t (a.0, all_closed P drops xs a.1))
     (cases_Bool (drops x xs))
 
-all_from_front : {X : Type 0} (P : X → Type 0) (xs : List X) (n : ℕ) (d : X) → n ≤ length xs → AllWithin P xs 0 n → All P (take n xs)
+all_from_front : {X : Type 0} (P : X → Type 0) (xs : List X) (n : ℕ) (d : X) → n ≤ length xs → AllWithin P xs 0 n → AllByRecursion P (take n xs)
 all_from_front P xs zero d h e = tt
 all_from_front P xs (suc n) d h e =
     let more = All-more P xs n d (omega arith) (all_from_front P xs n d (omega arith) (λ k x low high. e k x low (omega arith))) (e n d (omega arith) (omega arith)) in
     rw add-one at more
 
-front_from_all : {X : Type 0} (P : X → Type 0) (xs : List X) (n : ℕ) → n ≤ length xs → All P (take n xs) → AllWithin P xs 0 n
+front_from_all : {X : Type 0} (P : X → Type 0) (xs : List X) (n : ℕ) → n ≤ length xs → AllByRecursion P (take n xs) → AllWithin P xs 0 n
 front_from_all P xs n h a k d low high =
     let l = length-take-le n xs h in
     let g = All-get_or P (take n xs) k d (omega arith) a in

@@ -1,12 +1,12 @@
 -- Facts about lists and sums that any version store's proof wants.
 use Rattle.std.proofs.Common.{◌≡◌, ℕ, zero, suc, ◌+◌, ◌<◌, Bool, true, false, cond, ◌||◌, eqb, List, [], ◌∷◌, ◌++◌, filter, refl, ◌∙◌, ⊎_elim, arith}
-use Rattle.std.specs.List.{AllByRecursion as All}
+use Rattle.std.specs.List.{AllByRecursion}
 use Rattle.std.proofs.lemmas.Bool.{eq-eqb, ne_eqb, cases_Bool, cases_eq}
 use Rattle.versions.specs.Meaning.{any, sum_below}
 
 -- filters
 
-pub kept_by_same : {X : Type 0} (p q : X → Bool) (xs : List X) → All (λ x. p x ≡ q x) xs → filter p xs ≡ filter q xs
+pub kept_by_same : {X : Type 0} (p q : X → Bool) (xs : List X) → AllByRecursion (λ x. p x ≡ q x) xs → filter p xs ≡ filter q xs
 kept_by_same p q [] a = refl
 kept_by_same p q (x ∷ xs) a =
     let rest = kept_by_same p q xs a.1 in
@@ -15,11 +15,11 @@ kept_by_same p q (x ∷ xs) a =
     (λ (e : q x ≡ false). let f = a.0 ∙ e in rw (e, f, rest) refl)
     (cases_Bool (q x))
 
-pub kept_by_none : {X : Type 0} (p : X → Bool) (xs : List X) → All (λ x. p x ≡ false) xs → filter p xs ≡ []
+pub kept_by_none : {X : Type 0} (p : X → Bool) (xs : List X) → AllByRecursion (λ x. p x ≡ false) xs → filter p xs ≡ []
 kept_by_none p [] a = refl
 kept_by_none p (x ∷ xs) a = let h = a.0 in rw h (kept_by_none p xs a.1)
 
-pub any_none : {X : Type 0} (p : X → Bool) (xs : List X) → All (λ x. p x ≡ false) xs → any p xs ≡ false
+pub any_none : {X : Type 0} (p : X → Bool) (xs : List X) → AllByRecursion (λ x. p x ≡ false) xs → any p xs ≡ false
 any_none p [] a = refl
 any_none p (x ∷ xs) a = let h = a.0 in rw h (any_none p xs a.1)
 

@@ -1,6 +1,6 @@
 -- Laws of what a version store means.
 use Rattle.std.proofs.Common.{◌≡◌, ℕ, ◌+◌, ◌<◌, ◌≤◌, true, false, cond, not, ◌&&◌, ltb, leb, List, [], ◌∷◌, Ok, Err, refl, ⊎_elim, arith}
-use Rattle.std.specs.List.{AllByRecursion as All}
+use Rattle.std.specs.List.{AllByRecursion}
 use Rattle.std.proofs.lemmas.Bool.{lt-ltb, le-ltb, ltb-true, leb-false, lt-leb, le-leb, and_parts, cases_Bool}
 use Rattle.std.proofs.ByRecursion.{All-weaker}
 use Rattle.std.proofs.lemmas.List.Filters.{length-filter_both}
@@ -21,7 +21,7 @@ pub falls_more : (v : ℕ × ℕ) (vs : List (ℕ × ℕ)) → (newest vs).0 < v
 falls_more v vs low f = let l = lt-ltb (newest vs).0 v.0 low in rw l f
 
 -- every version is older than one put in front of the newest
-pub falls_below : (t : ℕ) (vs : List (ℕ × ℕ)) → (newest vs).0 < t → falls vs ≡ true → All (λ u. u.0 < t) vs
+pub falls_below : (t : ℕ) (vs : List (ℕ × ℕ)) → (newest vs).0 < t → falls vs ≡ true → AllByRecursion (λ u. u.0 < t) vs
 falls_below t [] low f = tt
 falls_below t (v ∷ vs) low f =
     let front = falls_front v vs f in
