@@ -2,14 +2,14 @@
 """Compares programs with the outside implementation, line by line.
 
     trials/compare.py                                    both programs, 40 files each
-    trials/compare.py target/bin/calllog --files 500 --calls 2000 --seed 9
+    trials/compare.py crates/calllog/out/calllog --files 500 --calls 2000 --seed 9
 
 Each file is random, by seed and style, at the programs' set-up. The first file of
 each style is piped in one record at a time, and each line must come before the
 next record is sent. The laws (check_serial.py) are checked on what the program
 printed.
 
-    trials/compare.py --trials target/bin/trials         40 files over random settings
+    trials/compare.py --trials crates/trials/out/trials      40 files over random settings
 
 makes a folder of files over random settings and lets the program `trials` compare
 them, over every pair of store and validator.
@@ -29,7 +29,7 @@ from outside import Settings
 from records import split
 
 HERE = os.path.dirname(os.path.abspath(__file__))
-PROGRAMS = [os.path.join(HERE, "..", "target", "bin", name) for name in ("calllog", "callchain")]
+PROGRAMS = [os.path.join(HERE, "..", "crates", name, "out", name) for name in ("calllog", "callchain")]
 PATIENCE = 10  # seconds for one line
 
 

@@ -4,6 +4,7 @@ ghost use Rattle.ledger.specs.declared.Answer.TheVariants.{Began, Read as ReadDo
 ghost use Rattle.ledger.specs.Ledger.{new_ledger};
 ghost use Rattle.ledger.specs.Calls.{keys_from};
 ghost use Rattle.transactions.specs.View.{view};
+ghost use Rattle.transactions.specs.Places.{begin_answer};
 ghost use Rattle.engine.specs.Shows.{shown, value_in};
 ghost use Rattle.engine.specs.Fits.{Fits, limits_of};
 ghost use Rattle.engine.specs.SetUp.{set_up_answer, last_of};
@@ -64,6 +65,7 @@ impl<S: VersionStore, V: Validator> Engine<S, V> {
 
     /// Begins a transaction, and gives its handle.
     pub fn begin(&mut self, kind: Kind) -> Result<u32, Fault>
+        ensures answer { result ≡ begin_answer self.old.table }
         ensures serves { ServesBare S.VersionStore.meaning V.Validator.meaning self.old self.new (Begin kind) (told Began result) }
         ensures idle { Idle self.old self.new }
     {

@@ -1,5 +1,5 @@
 // Slips: a transaction in hand, which has to be ended.
-ghost use Rattle.std.specs.Prelude.{◌≡◌};
+ghost use Rattle.std.specs.Prelude.{◌≡◌, ◌<◌, IfOk};
 ghost use Rattle.ledger.specs.declared.Kind.TheVariants.{Reader, Updater};
 ghost use Rattle.ledger.specs.declared.Call.TheVariants.{Begin, Read, Write, Commit, Abort};
 ghost use Rattle.ledger.specs.declared.Answer.TheVariants.{Began, Read as ReadDone, Wrote, Ended, Aborted};
@@ -19,7 +19,7 @@ pub struct Reading {}
 pub struct Updating {}
 
 /// Leave to act in one transaction. It goes only to the commit or the abort that ends it:
-/// no one can let it drop.
+/// a slip of no transaction could be let go, and no call gives one.
 pub struct Slip<K: Copy> {
     handle: u32,
     leave: K,
@@ -27,7 +27,7 @@ pub struct Slip<K: Copy> {
 
 impl<K: Copy> Drop for Slip<K> {
     fn drop(self)
-        requires { ⊥ }
+        requires { self.handle ≡ 0 }
     {
         let Slip {
             handle: _,
@@ -53,7 +53,8 @@ impl<K: Copy> Slip<K> {
 
 impl<S: VersionStore, V: Validator> Engine<S, V> {
     pub fn begin_reader(&mut self) -> Result<Slip<Reading>, Fault>
-        ensures { ServesBare S.VersionStore.meaning V.Validator.meaning self.old self.new (Begin Reader) (told (λ s. Began s.handle) result) }
+        ensures serves { ServesBare S.VersionStore.meaning V.Validator.meaning self.old self.new (Begin Reader) (told (λ s. Began s.handle) result) }
+        ensures held { IfOk result (λ s. 0 < s.handle) }
     {
         let handle = self.begin(Kind::Reader)?;
         Ok(Slip {
@@ -63,7 +64,8 @@ impl<S: VersionStore, V: Validator> Engine<S, V> {
     }
 
     pub fn begin_updater(&mut self) -> Result<Slip<Updating>, Fault>
-        ensures { ServesBare S.VersionStore.meaning V.Validator.meaning self.old self.new (Begin Updater) (told (λ s. Began s.handle) result) }
+        ensures serves { ServesBare S.VersionStore.meaning V.Validator.meaning self.old self.new (Begin Updater) (told (λ s. Began s.handle) result) }
+        ensures held { IfOk result (λ s. 0 < s.handle) }
     {
         let handle = self.begin(Kind::Updater)?;
         Ok(Slip {
