@@ -16,17 +16,17 @@ use Rattle.ledger.proofs.Ways.{Judges, standing, tidied}
 use Rattle.ledger.proofs.Orders.{orderly, tidy, fine_found}
 use Rattle.versions.specs.Meaning.{Meaning as Store, free as room}
 use Rattle.validation.specs.Meaning.{Meaning as Stamps}
-use Rattle.transactions.specs.declared.record.Record.{Record}
-use Rattle.transactions.specs.declared.table.Table.{Table}
-use Rattle.transactions.specs.View.{active_of, view, taken}
-use Rattle.transactions.specs.Places.{Here}
-use Rattle.transactions.specs.Shuffle.{Shuffle}
+use Rattle.transaction_table.specs.declared.record.Record.{Record}
+use Rattle.transaction_table.specs.declared.table.Table.{Table}
+use Rattle.transaction_table.specs.View.{active_of, view, taken}
+use Rattle.transaction_table.specs.Places.{Here}
+use Rattle.transaction_table.specs.Shuffle.{Shuffle}
 use Rattle.engine.specs.Fits.{Fits, limits_of}
 use Rattle.engine.specs.Endings.{first_named, all_added, all_noted}
 use Rattle.engine.specs.Verdicts.{with_room, Judged}
 use Rattle.engine.specs.Serves.{Steps}
-use Rattle.transactions.proofs.Shuffles.{shuffle_kept}
-use Rattle.transactions.proofs.Slots.{slots_free}
+use Rattle.transaction_table.proofs.Shuffles.{shuffle_kept}
+use Rattle.transaction_table.proofs.Slots.{slots_free}
 use Rattle.engine.proofs.Fittings.{last_is, limits_are, busy, places_apart, found_here}
 use Rattle.engine.proofs.Installs.{adds, notes, holds_installed}
 use Rattle.engine.proofs.Validations.{clash_named, full_judged}

@@ -13,15 +13,15 @@ use Rattle.ledger.proofs.Actives.{all_found, least_each}
 use Rattle.ledger.proofs.Orders.{sound, dated, fine_found}
 use Rattle.versions.specs.Meaning.{Meaning as Store, as_of, newest}
 use Rattle.validation.specs.Meaning.{Meaning as Stamps}
-use Rattle.transactions.specs.declared.table.Table.{Table}
-use Rattle.transactions.specs.View.{active_of, view}
-use Rattle.transactions.specs.Places.{Here}
-use Rattle.transactions.specs.Shuffle.{Shuffle}
+use Rattle.transaction_table.specs.declared.table.Table.{Table}
+use Rattle.transaction_table.specs.View.{active_of, view}
+use Rattle.transaction_table.specs.Places.{Here}
+use Rattle.transaction_table.specs.Shuffle.{Shuffle}
 use Rattle.engine.specs.Shows.{shown}
 use Rattle.engine.specs.Fits.{Fits, Holds, limits_of, chain_of}
 use Rattle.engine.specs.Serves.{Steps}
-use Rattle.transactions.proofs.Shuffles.{shuffle_apart, shuffle_found}
-use Rattle.transactions.proofs.Slots.{slots_found}
+use Rattle.transaction_table.proofs.Shuffles.{shuffle_apart, shuffle_found}
+use Rattle.transaction_table.proofs.Slots.{slots_found}
 use Rattle.engine.proofs.Chains.{chain_below, chain_newest}
 
 -- only the clock and the active transactions change

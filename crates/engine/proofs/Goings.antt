@@ -10,7 +10,7 @@ use Rattle.ledger.proofs.Restarts.{same_limits}
 use Rattle.ledger.proofs.Whole.{lawful}
 use Rattle.versions.specs.Meaning.{Meaning as Store, newest}
 use Rattle.validation.specs.Meaning.{Meaning as Stamps}
-use Rattle.transactions.specs.declared.table.Table.{Table}
+use Rattle.transaction_table.specs.declared.table.Table.{Table}
 use Rattle.engine.specs.declared.engine.Engine.{Engine}
 use Rattle.engine.specs.Fits.{Fits, limits_of}
 use Rattle.engine.specs.Serves.{Serves, GoesOn, made, newest_in}

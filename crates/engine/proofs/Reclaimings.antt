@@ -12,13 +12,13 @@ use Rattle.ledger.specs.Reach.{next}
 use Rattle.ledger.proofs.Orders.{dated, orderly, idle}
 use Rattle.versions.specs.Meaning.{Meaning as Store, pruned, pruned_count, free as room}
 use Rattle.validation.specs.Meaning.{Meaning as Stamps, trimmed}
-use Rattle.transactions.specs.declared.table.Table.{Table}
-use Rattle.transactions.specs.View.{active_of}
-use Rattle.transactions.specs.Places.{of_kind}
+use Rattle.transaction_table.specs.declared.table.Table.{Table}
+use Rattle.transaction_table.specs.View.{active_of}
+use Rattle.transaction_table.specs.Places.{of_kind}
 use Rattle.engine.specs.Fits.{Fits}
 use Rattle.engine.specs.Verdicts.{with_room}
 use Rattle.engine.specs.Serves.{Steps}
-use Rattle.transactions.proofs.Shuffles.{shuffle_least}
+use Rattle.transaction_table.proofs.Shuffles.{shuffle_least}
 use Rattle.engine.proofs.Fittings.{last_is, limits_are}
 use Rattle.engine.proofs.Reclaims.{holds_reclaimed, dead_is, free_is}
 

@@ -8,10 +8,10 @@ use Rattle.ledger.specs.Ledger.{new_ledger}
 use Rattle.ledger.specs.Reach.{made}
 use Rattle.versions.specs.Meaning.{Meaning as Store, kept, sum_below}
 use Rattle.validation.specs.Meaning.{Meaning as Stamps, latest, greatest_below, stamp_at}
-use Rattle.transactions.specs.declared.table.Table.{Table}
-use Rattle.transactions.specs.View.{active_of}
-use Rattle.transactions.specs.Notes.{on_ok}
-use Rattle.transactions.specs.Shuffle.{Shuffle, done}
+use Rattle.transaction_table.specs.declared.table.Table.{Table}
+use Rattle.transaction_table.specs.View.{active_of}
+use Rattle.transaction_table.specs.Notes.{on_ok}
+use Rattle.transaction_table.specs.Shuffle.{Shuffle, done}
 use Rattle.engine.specs.SetUp.{set_up_answer, last_of}
 use Rattle.engine.specs.Fits.{Fits, limits_of}
 

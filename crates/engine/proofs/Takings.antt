@@ -14,17 +14,17 @@ use Rattle.ledger.specs.Ledger.{Transaction, Ledger, found, is_reader, any}
 use Rattle.ledger.specs.Calls.{Outcome, step, refused, with_active, without, changed, fresh, keys_from, seen, joined, wrote, no_room, same_range}
 use Rattle.versions.specs.Meaning.{Meaning as Store}
 use Rattle.validation.specs.Meaning.{Meaning as Stamps}
-use Rattle.transactions.specs.declared.record.Record.{Record}
-use Rattle.transactions.specs.declared.table.Table.{Table}
-use Rattle.transactions.specs.View.{active_of, view, taken}
-use Rattle.transactions.specs.Notes.{admits, join_answer, then, noted_on, on_ok}
-use Rattle.transactions.specs.Places.{Here, Released, begin_answer, begun_active}
+use Rattle.transaction_table.specs.declared.record.Record.{Record}
+use Rattle.transaction_table.specs.declared.table.Table.{Table}
+use Rattle.transaction_table.specs.View.{active_of, view, taken}
+use Rattle.transaction_table.specs.Notes.{admits, join_answer, then, noted_on, on_ok}
+use Rattle.transaction_table.specs.Places.{Here, Released, begin_answer, begun_active}
 use Rattle.engine.specs.Shows.{shown}
-use Rattle.transactions.specs.Shuffle.{Shuffle, keep, join}
+use Rattle.transaction_table.specs.Shuffle.{Shuffle, keep, join}
 use Rattle.engine.specs.Fits.{Fits}
 use Rattle.engine.specs.Serves.{Steps, told}
-use Rattle.transactions.proofs.Shuffles.{shuffle_length, shuffle_kept, shuffle_map}
-use Rattle.transactions.proofs.Slots.{slots_free, slots_put, slots_same}
+use Rattle.transaction_table.proofs.Shuffles.{shuffle_length, shuffle_kept, shuffle_map}
+use Rattle.transaction_table.proofs.Slots.{slots_free, slots_put, slots_same}
 use Rattle.engine.proofs.Fills.{shown_joined, map_all, keys_below}
 use Rattle.engine.proofs.Fittings.{last_is, limits_are, busy, places_apart, found_same, found_here, shown_seen, keeps_refused, keeps_moved}
 

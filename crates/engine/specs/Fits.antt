@@ -5,9 +5,9 @@ use Rattle.ledger.specs.Calls.{granule_stamp}
 use Rattle.ledger.specs.Reach.{Reached}
 use Rattle.versions.specs.Meaning.{Meaning as Store}
 use Rattle.validation.specs.Meaning.{Meaning as Stamps, stamp_at}
-use Rattle.transactions.specs.declared.table.Table.{Table}
-use Rattle.transactions.specs.View.{active_of}
-use Rattle.transactions.specs.Shuffle.{Shuffle}
+use Rattle.transaction_table.specs.declared.table.Table.{Table}
+use Rattle.transaction_table.specs.View.{active_of}
+use Rattle.transaction_table.specs.Shuffle.{Shuffle}
 
 -- the limits of an engine with this last tick; none where its check refused, and the last tick is 0
 abbrev pub limits_of : ℕ → Store → Stamps → Limits

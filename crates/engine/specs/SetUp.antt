@@ -4,7 +4,7 @@ use Rattle.ledger.specs.declared.Fault.{Fault}
 use Rattle.ledger.specs.declared.Fault.TheVariants.{LastTick, NotFresh}
 use Rattle.versions.specs.Meaning.{Meaning as Store, kept}
 use Rattle.validation.specs.Meaning.{Meaning as Stamps, latest}
-use Rattle.transactions.specs.Notes.{on_ok}
+use Rattle.transaction_table.specs.Notes.{on_ok}
 
 -- the last tick, then that store and validator have the same keys, and nothing yet
 abbrev pub set_up_answer : ℕ → Store → Stamps → Result (Unit {0}) Fault

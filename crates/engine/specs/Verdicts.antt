@@ -7,10 +7,10 @@ use Rattle.ledger.specs.Ledger.{Transaction, Ledger, found, is_reader}
 use Rattle.ledger.specs.Calls.{Outcome, step, reclaimed, free, without}
 use Rattle.versions.specs.Meaning.{Meaning as Store}
 use Rattle.validation.specs.Meaning.{Meaning as Stamps}
-use Rattle.transactions.specs.declared.record.Record.{Record}
-use Rattle.transactions.specs.declared.table.Table.{Table}
+use Rattle.transaction_table.specs.declared.record.Record.{Record}
+use Rattle.transaction_table.specs.declared.table.Table.{Table}
 use Rattle.engine.specs.declared.engine.Engine.{Engine}
-use Rattle.transactions.specs.View.{view}
+use Rattle.transaction_table.specs.View.{view}
 use Rattle.engine.specs.Fits.{limits_of, Holds, Fits}
 
 -- From e to e' a part of a commit was done. m and p are the meanings of the store and of the validator.

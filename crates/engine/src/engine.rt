@@ -3,16 +3,16 @@ ghost use Rattle.ledger.specs.declared.Call.TheVariants.{Begin, Read, Write, Abo
 ghost use Rattle.ledger.specs.declared.Answer.TheVariants.{Began, Read as ReadDone, Wrote, Aborted};
 ghost use Rattle.ledger.specs.Ledger.{new_ledger};
 ghost use Rattle.ledger.specs.Calls.{keys_from};
-ghost use Rattle.transactions.specs.View.{view};
-ghost use Rattle.transactions.specs.Places.{begin_answer};
+ghost use Rattle.transaction_table.specs.View.{view};
+ghost use Rattle.transaction_table.specs.Places.{begin_answer};
 ghost use Rattle.engine.specs.Shows.{shown, value_in};
 ghost use Rattle.engine.specs.Fits.{Fits, limits_of};
 ghost use Rattle.engine.specs.SetUp.{set_up_answer, last_of};
 ghost use Rattle.engine.specs.Serves.{Serves, ServesBare, Idle, told};
 
 use ledger::{Call, Fault, Kind};
-use transactions::record::{Record, State};
-use transactions::table::Table;
+use transaction_table::record::{Record, State};
+use transaction_table::table::Table;
 use validation::validator::Validator;
 use versions::fault::StoreFault;
 use versions::store::VersionStore;

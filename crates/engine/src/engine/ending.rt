@@ -3,14 +3,14 @@ ghost use Rattle.std.specs.Prelude.{◌≡◌, ◌<◌};
 ghost use Rattle.ledger.specs.declared.Call.TheVariants.{Reclaim, Commit};
 ghost use Rattle.ledger.specs.declared.Answer.TheVariants.{Reclaimed, Ended};
 ghost use Rattle.validation.specs.Meaning.{clash_answer};
-ghost use Rattle.transactions.specs.View.{ranges};
+ghost use Rattle.transaction_table.specs.View.{ranges};
 ghost use Rattle.engine.specs.Endings.{named, first_named, all_added, all_noted};
 ghost use Rattle.engine.specs.Verdicts.{MakesRoom, Judges};
 ghost use Rattle.engine.specs.Serves.{ServesBare, Idle, told};
 
 use super::Engine;
 use ledger::{Fault, Kind, Range, Verdict, Write};
-use transactions::record::{Record, State};
+use transaction_table::record::{Record, State};
 use validation::validator::Validator;
 use versions::store::VersionStore;
 

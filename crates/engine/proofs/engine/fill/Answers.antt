@@ -1,6 +1,6 @@
 use Rattle.std.proofs.Common.{◌≡◌, ◌++◌, map, drop, refl, ap, ◌∙◌, arith}
 use Rattle.ledger.specs.Calls.{keys_from}
-use Rattle.transactions.specs.View.{view}
+use Rattle.transaction_table.specs.View.{view}
 use Rattle.engine.specs.Shows.{shown}
 use Rattle.engine.proofs.Fills.{fill_more}
 use Rattle.engine.proofs.engine.fill.Goals as goal

@@ -1,6 +1,6 @@
 use Rattle.std.proofs.Common.{◌≡◌, ◌++◌, map, drop}
 use Rattle.ledger.specs.Calls.{keys_from}
-use Rattle.transactions.specs.View.{view}
+use Rattle.transaction_table.specs.View.{view}
 use Rattle.engine.specs.Shows.{shown}
 use Rattle.engine.proofs.engine.fill.Given as goal
 

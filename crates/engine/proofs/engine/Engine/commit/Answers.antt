@@ -1,7 +1,7 @@
 use Rattle.std.proofs.Common.{refl, ap, ◌∙◌, ⊎_elim}
 use Rattle.ledger.specs.Ledger.{is_reader}
-use Rattle.transactions.specs.View.{kind_of}
-use Rattle.transactions.proofs.Slots.{here_at}
+use Rattle.transaction_table.specs.View.{kind_of}
+use Rattle.transaction_table.proofs.Slots.{here_at}
 use Rattle.engine.proofs.Fittings.{found_same}
 use Rattle.engine.proofs.Takings.{no_record}
 use Rattle.engine.proofs.Commits.{closes, updates, commit_judged}

@@ -1,5 +1,5 @@
 use Rattle.std.proofs.Common.{sym, ap, ◌∙◌, arith}
-use Rattle.transactions.specs.View.{view}
+use Rattle.transaction_table.specs.View.{view}
 use Rattle.engine.proofs.Commits.{judge_restart, judge_spent, judge_full, judge_committed}
 use Rattle.engine.proofs.engine.Engine.judge.Goals as goal
 

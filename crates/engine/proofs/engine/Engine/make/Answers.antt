@@ -1,5 +1,5 @@
 use Rattle.std.proofs.Common.{◌≡◌, refl, ap, ◌∙◌}
-use Rattle.transactions.specs.Notes.{on_ok}
+use Rattle.transaction_table.specs.Notes.{on_ok}
 use Rattle.engine.specs.SetUp.{last_of}
 use Rattle.engine.proofs.SetUps.{new_fits}
 use Rattle.engine.proofs.engine.Engine.make.Goals as goal

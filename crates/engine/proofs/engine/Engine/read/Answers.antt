@@ -1,9 +1,9 @@
 use Rattle.std.proofs.Common.{length, get_or, refl, ap, ◌∙◌, arith}
 use Rattle.std.proofs.lemmas.Result.{err_from_is_err_and}
 use Rattle.ledger.specs.declared.Call.TheVariants.{Read}
-use Rattle.transactions.specs.View.{view}
-use Rattle.transactions.specs.Notes.{admits}
-use Rattle.transactions.proofs.Slots.{here_at}
+use Rattle.transaction_table.specs.View.{view}
+use Rattle.transaction_table.specs.Notes.{admits}
+use Rattle.transaction_table.proofs.Slots.{here_at}
 use Rattle.engine.proofs.Fittings.{found_same}
 use Rattle.engine.proofs.Takings.{no_record, admitted_read, read_refused, read_steps}
 use Rattle.engine.proofs.engine.Engine.read.Goals as goal

@@ -1,8 +1,8 @@
 use Rattle.std.proofs.Common.{refl, ap, ◌∙◌}
 use Rattle.ledger.specs.declared.Call.TheVariants.{Write}
-use Rattle.transactions.specs.View.{view}
-use Rattle.transactions.specs.Notes.{admits}
-use Rattle.transactions.proofs.Slots.{here_at}
+use Rattle.transaction_table.specs.View.{view}
+use Rattle.transaction_table.specs.Notes.{admits}
+use Rattle.transaction_table.proofs.Slots.{here_at}
 use Rattle.engine.proofs.Fittings.{found_same}
 use Rattle.engine.proofs.Takings.{no_record, write_steps}
 use Rattle.engine.proofs.engine.Engine.write.Goals as goal

@@ -1,0 +1,160 @@
+-- What one record more, or one record changed, makes of the active transactions.
+use Rattle.std.proofs.Common.{◌≡◌, ℕ, zero, suc, ◌<◌, ◌≤◌, min, Bool, true, false, cond, eqb, List, [], ◌∷◌, length, get_or, set, Some, sym, refl, ap, ◌∙◌, subst, arith}
+use Rattle.std.proofs.lemmas.Bool.{ne_eqb, eq-eqb, cond_both}
+use Rattle.std.specs.List.{AllByRecursion, slice_get}
+use Rattle.ledger.specs.Calls.{without, changed}
+use Rattle.transaction_table.specs.Shuffle.{Shuffle, keep, swap, join}
+use Rattle.ledger.specs.Orderly.{Apart}
+use Rattle.transaction_table.proofs.Shuffles.{shuffle_refl}
+use Rattle.ledger.specs.declared.Kind.{Kind}
+use Rattle.ledger.specs.Ledger.{Transaction, found, least_start}
+use Rattle.transaction_table.specs.declared.record.State.{State}
+use Rattle.transaction_table.specs.declared.record.State.TheVariants.{Free, Reader, Updater}
+use Rattle.transaction_table.specs.declared.record.Record.{Record}
+use Rattle.transaction_table.specs.View.{taken, view, active_of, kind_of, ranges, entries}
+use Rattle.transaction_table.specs.Places.{Here, of_kind, holds_kind}
+
+pub active_free : (r : Record) (rs : List Record) → taken r.state ≡ false → active_of (r ∷ rs) ≡ active_of rs
+active_free r rs e = rw e
+
+pub active_taken : (r : Record) (rs : List Record) → taken r.state ≡ true → active_of (r ∷ rs) ≡ view r ∷ active_of rs
+active_taken r rs e = rw e
+
+pub found_other : (r : Record) (rs : List Record) (h : ℕ) → (r.start ≡ h → ⊥) → found (active_of (r ∷ rs)) h ≡ found (active_of rs) h
+found_other r rs h ne = go (taken r.state) (ne_eqb r.start h ne)
+  where
+    go : (b : Bool) → eqb r.start h ≡ false → found (cond b (view r ∷ active_of rs) (active_of rs)) h ≡ found (active_of rs) h
+    go true e = rw e
+    go false e = refl
+
+pub not_free : (s : State) → (s ≡ Free → ⊥) → taken s ≡ true
+not_free Free ne = absurd (ne refl)
+not_free Reader ne = refl
+not_free Updater ne = refl
+
+-- a new transaction in a free place
+pub slots_open : (rs : List Record) (i : ℕ) (at r : Record) → slice_get rs i ≡ Some at → taken at.state ≡ false → taken r.state ≡ true → Shuffle (view r ∷ active_of rs) (active_of (set rs i r))
+slots_open [] i at r e free on = let z : ◌≡◌ {A = ℕ} 0 1 = cc in absurd (omega arith)
+slots_open (u ∷ rs) zero at r e free on =
+    let same : u ≡ at = cc in
+    let off : taken u.state ≡ false = ap (λ x. taken x.state) same ∙ free in
+    rw (active_free u rs off, active_taken r rs on) (shuffle_refl _)
+slots_open (u ∷ rs) (suc i) at r e free on = go (taken u.state) (slots_open rs i at r e free on)
+  where
+    go : (b : Bool) → Shuffle (view r ∷ active_of rs) (active_of (set rs i r)) → Shuffle (view r ∷ cond b (view u ∷ active_of rs) (active_of rs)) (cond b (view u ∷ active_of (set rs i r)) (active_of (set rs i r)))
+    go true ih = join swap (keep ih)
+    go false ih = ih
+
+-- what holds of each active transaction holds of the one in a place
+slots_at : (P : Transaction → Type 0) (rs : List Record) (i : ℕ) (at : Record) → slice_get rs i ≡ Some at → taken at.state ≡ true → AllByRecursion P (active_of rs) → P (view at)
+slots_at P [] i at e on a = let z : ◌≡◌ {A = ℕ} 0 1 = cc in absurd (omega arith)
+slots_at P (u ∷ rs) zero at e on a =
+    let same : u ≡ at = cc in
+    subst (λ x. P (view x)) same (subst (AllByRecursion P) (active_taken u rs (ap (λ x. taken x.state) same ∙ on)) a).0
+slots_at P (u ∷ rs) (suc i) at e on a = go (taken u.state) a (slots_at P rs i at e on)
+  where
+    go : (b : Bool) → AllByRecursion P (cond b (view u ∷ active_of rs) (active_of rs)) → (AllByRecursion P (active_of rs) → P (view at)) → P (view at)
+    go true q later = later q.1
+    go false q later = later q
+
+-- a change of the one place that holds a handle, as `f` changes the list of its transaction alone
+kept_apart : (ts : List Transaction) (h : ℕ) → AllByRecursion (λ u. u.start ≡ h → ⊥) ts → without ts h ≡ ts
+kept_apart [] h a = refl
+kept_apart (t ∷ ts) h a = rw (ne_eqb t.start h a.0) (ap (λ us. t ∷ us) (kept_apart ts h a.1))
+
+changed_apart : (ts : List Transaction) (h : ℕ) (f : Transaction → Transaction) → AllByRecursion (λ u. u.start ≡ h → ⊥) ts → changed ts h f ≡ ts
+changed_apart [] h f a = refl
+changed_apart (u ∷ ts) h f a = rw (ne_eqb u.start h a.0) (ap (λ us. u ∷ us) (changed_apart ts h f a.1))
+
+pub slots_free : (rs : List Record) (i h : ℕ) (at r : Record) → slice_get rs i ≡ Some at → taken at.state ≡ true → at.start ≡ h → taken r.state ≡ false → Apart (active_of rs) → active_of (set rs i r) ≡ without (active_of rs) h
+slots_free [] i h at r e on has off a = refl
+slots_free (u ∷ rs) zero h at r e on has off a =
+    let same : u ≡ at = cc in
+    let t = active_taken u rs (ap (λ x. taken x.state) same ∙ on) in
+    let starts : u.start ≡ h = ap (λ x. x.start) same ∙ has in
+    let b = subst Apart t a in
+    rw (active_free r rs off, t, eq-eqb u.start h starts) (sym (kept_apart (active_of rs) h (rw starts at b.0)))
+slots_free (u ∷ rs) (suc i) h at r e on has off a = go (taken u.state) a (slots_free rs i h at r e on has off)
+  where
+    go : (b : Bool) → Apart (cond b (view u ∷ active_of rs) (active_of rs)) → (Apart (active_of rs) → active_of (set rs i r) ≡ without (active_of rs) h) → cond b (view u ∷ active_of (set rs i r)) (active_of (set rs i r)) ≡ without (cond b (view u ∷ active_of rs) (active_of rs)) h
+    go true q later =
+        let ne : u.start ≡ h → ⊥ = λ s. slots_at (λ x. x.start ≡ u.start → ⊥) rs i at e on q.0 (has ∙ sym s) in
+        rw (ne_eqb u.start h ne) (ap (λ us. view u ∷ us) (later q.1))
+    go false q later = later q
+
+pub slots_put : (rs : List Record) (i h : ℕ) (at r : Record) (f : Transaction → Transaction) → slice_get rs i ≡ Some at → taken at.state ≡ true → at.start ≡ h → taken r.state ≡ true → view r ≡ f (view at) → Apart (active_of rs) → active_of (set rs i r) ≡ changed (active_of rs) h f
+slots_put [] i h at r f e on has off is a = refl
+slots_put (u ∷ rs) zero h at r f e on has off is a =
+    let same : u ≡ at = cc in
+    let t = active_taken u rs (ap (λ x. taken x.state) same ∙ on) in
+    let starts : u.start ≡ h = ap (λ x. x.start) same ∙ has in
+    let b = subst Apart t a in
+    rw (active_taken r rs off, t, eq-eqb u.start h starts) (ap (λ v. v ∷ active_of rs) (is ∙ ap (λ x. f (view x)) (sym same)) ∙ ap (λ us. f (view u) ∷ us) (sym (changed_apart (active_of rs) h f (rw starts at b.0))))
+slots_put (u ∷ rs) (suc i) h at r f e on has off is a = go (taken u.state) a (slots_put rs i h at r f e on has off is)
+  where
+    go : (b : Bool) → Apart (cond b (view u ∷ active_of rs) (active_of rs)) → (Apart (active_of rs) → active_of (set rs i r) ≡ changed (active_of rs) h f) → cond b (view u ∷ active_of (set rs i r)) (active_of (set rs i r)) ≡ changed (cond b (view u ∷ active_of rs) (active_of rs)) h f
+    go true q later =
+        let ne : u.start ≡ h → ⊥ = λ s. slots_at (λ x. x.start ≡ u.start → ⊥) rs i at e on q.0 (has ∙ sym s) in
+        rw (ne_eqb u.start h ne) (ap (λ us. view u ∷ us) (later q.1))
+    go false q later = later q
+
+-- the transaction in a place is the one that is found
+pub slots_found : (rs : List Record) (i h : ℕ) (at : Record) → slice_get rs i ≡ Some at → taken at.state ≡ true → at.start ≡ h → Apart (active_of rs) → found (active_of rs) h ≡ Some (view at)
+slots_found [] i h at e on has a = let z : ◌≡◌ {A = ℕ} 0 1 = cc in absurd (omega arith)
+slots_found (u ∷ rs) zero h at e on has a =
+    let same : u ≡ at = cc in
+    let starts : u.start ≡ h = ap (λ x. x.start) same ∙ has in
+    rw (active_taken u rs (ap (λ x. taken x.state) same ∙ on), eq-eqb u.start h starts) (ap (λ x. Some (view x)) same)
+slots_found (u ∷ rs) (suc i) h at e on has a = go (taken u.state) a (slots_found rs i h at e on has)
+  where
+    go : (b : Bool) → Apart (cond b (view u ∷ active_of rs) (active_of rs)) → (Apart (active_of rs) → found (active_of rs) h ≡ Some (view at)) → found (cond b (view u ∷ active_of rs) (active_of rs)) h ≡ Some (view at)
+    go true q later =
+        let ne : u.start ≡ h → ⊥ = λ s. slots_at (λ x. x.start ≡ u.start → ⊥) rs i at e on q.0 (has ∙ sym s) in
+        rw (ne_eqb u.start h ne) (later q.1)
+    go false q later = later q
+
+length_active : (rs : List Record) → length (active_of rs) ≤ length rs
+length_active [] = omega arith
+length_active (r ∷ rs) = let h = length_active rs in cond_both (taken r.state) (view r ∷ active_of rs) (active_of rs) (λ us. length us ≤ suc (length rs)) (λ _. omega arith) (λ _. omega arith)
+
+pub slots_few : (rs : List Record) (i : ℕ) (at : Record) → slice_get rs i ≡ Some at → taken at.state ≡ false → length (active_of rs) < length rs
+slots_few [] i at e off = let z : ◌≡◌ {A = ℕ} 0 1 = cc in absurd (omega arith)
+slots_few (u ∷ rs) zero at e off = let same : u ≡ at = cc in rw (active_free u rs (ap (λ x. taken x.state) same ∙ off)) (omega (arith, length_active rs))
+slots_few (u ∷ rs) (suc i) at e off = let h = slots_few rs i at e off in cond_both (taken u.state) (view u ∷ active_of rs) (active_of rs) (λ us. length us < suc (length rs)) (λ _. omega arith) (λ _. omega arith)
+
+pub nth_get_d : {X : Type 0} (xs : List X) (i : ℕ) (d : X) → i < length xs → slice_get xs i ≡ Some (get_or xs i d)
+nth_get_d [] i d lt = absurd (omega arith)
+nth_get_d (x ∷ xs) zero d lt = refl
+nth_get_d (x ∷ xs) (suc i) d lt = nth_get_d xs i d (omega arith)
+
+pub nth_at : {X : Type 0} (xs : List X) (i : ℕ) (x d : X) → slice_get xs i ≡ Some x → get_or xs i d ≡ x
+nth_at [] i x d e = let z : ◌≡◌ {A = ℕ} 0 1 = cc in absurd (omega arith)
+nth_at (y ∷ xs) zero x d e = cc
+nth_at (y ∷ xs) (suc i) x d e = nth_at xs i x d e
+
+-- the record of a place, as it is read
+abbrev pub here_at : (rs : List Record) (h i : ℕ) → Here rs h i → (d : Record) → Here rs h i
+here_at rs h i here d =
+    let same = nth_at rs i here.at d here.reads in
+    record { at = get_or rs i d; reads = here.reads ∙ ap Some (sym same); within = here.within; is_taken = ap (λ r. taken r.state) same ∙ here.is_taken; has = ap (λ r. r.start) same ∙ here.has }
+
+pub slots_same : (rs : List Record) (i : ℕ) (at r : Record) → slice_get rs i ≡ Some at → r.state ≡ at.state → view r ≡ view at → active_of (set rs i r) ≡ active_of rs
+slots_same [] i at r e on same = refl
+slots_same (u ∷ rs) zero at r e on same = let is : u ≡ at = cc in ap (λ s. cond (taken s) (view r ∷ active_of rs) (active_of rs)) on ∙ ap (λ v. cond (taken at.state) (v ∷ active_of rs) (active_of rs)) same ∙ ap (λ x. active_of (x ∷ rs)) (sym is)
+slots_same (u ∷ rs) (suc i) at r e on same = ap (λ us. cond (taken u.state) (view u ∷ us) us) (slots_same rs i at r e on same)
+
+pub view_is : (r : Record) (t : Transaction) → r.start ≡ t.start → kind_of r.state ≡ t.kind → ranges r.reads ≡ t.reads → entries r.writes ≡ t.writes → view r ≡ t
+view_is r t a b c d = rw (a, b, c, d)
+
+pub least_more : (kind : Kind) (r : Record) (rs : List Record) (n : ℕ) → least_start (of_kind kind) n (active_of (r ∷ rs)) ≡ cond (holds_kind kind r.state) (min r.start (least_start (of_kind kind) n (active_of rs))) (least_start (of_kind kind) n (active_of rs))
+least_more kind r rs n = go r.state refl
+  where
+    go : (s : State) → r.state ≡ s → least_start (of_kind kind) n (active_of (r ∷ rs)) ≡ cond (holds_kind kind s) (min r.start (least_start (of_kind kind) n (active_of rs))) (least_start (of_kind kind) n (active_of rs))
+    go Free e = rw e
+    go Reader e = rw e
+    go Updater e = rw e
+
+pub nth_set : {X : Type 0} (xs : List X) (i : ℕ) (x : X) → i < length xs → slice_get (set xs i x) i ≡ Some x
+nth_set [] i x lt = absurd (omega arith)
+nth_set (y ∷ xs) zero x lt = refl
+nth_set (y ∷ xs) (suc i) x lt = nth_set xs i x (omega arith)

@@ -1,0 +1,37 @@
+-- The transactions that the records of a table stand for.
+use Rattle.std.specs.Prelude.{Bool, true, false, cond, List, [], ◌∷◌, take}
+use Rattle.ledger.specs.declared.Kind.{Kind}
+use Rattle.ledger.specs.declared.Kind.TheVariants.{Reader, Updater}
+use Rattle.ledger.specs.declared.Range.{Range}
+use Rattle.ledger.specs.declared.Write.{Write}
+use Rattle.ledger.specs.Ledger.{Transaction}
+use Rattle.transaction_table.specs.declared.lists.ReadList.{ReadList}
+use Rattle.transaction_table.specs.declared.lists.WriteList.{WriteList}
+use Rattle.transaction_table.specs.declared.record.State.{State}
+use Rattle.transaction_table.specs.declared.record.State.TheVariants.{Free, Reader as Reads, Updater as Updates}
+use Rattle.transaction_table.specs.declared.record.Record.{Record}
+
+-- a transaction is in the record
+abbrev pub taken : State → Bool
+taken Free = false
+taken Reads = true
+taken Updates = true
+
+abbrev pub kind_of : State → Kind
+kind_of Free = Reader
+kind_of Reads = Reader
+kind_of Updates = Updater
+
+abbrev pub ranges : ReadList → List Range
+ranges r = take r.len r.items
+
+abbrev pub entries : WriteList → List Write
+entries w = take w.len w.items
+
+abbrev pub view : Record → Transaction
+view r = record { start = r.start; kind = kind_of r.state; reads = ranges r.reads; writes = entries r.writes }
+
+-- the active transactions, in the order of their records
+abbrev pub active_of : List Record → List Transaction
+active_of [] = []
+active_of (r ∷ rs) = cond (taken r.state) (view r ∷ active_of rs) (active_of rs)
