@@ -1,10 +1,10 @@
 -- What a chain store means, and what an add makes of it.
-use Rattle.std.proofs.Common.{◌≡◌, ℕ, suc, ◌+◌, ◌<◌, ◌≤◌, cond, eqb, ltb, List, [], ◌∷◌, map, length, get_or, set, Some, None, Option, refl, ap, ◌∙◌, subst, ⊎_elim, arith}
+use Rattle.std.proofs.Common.{◌≡◌, ℕ, suc, ◌<◌, cond, eqb, List, [], ◌∷◌, map, length, get_or, set, Some, None, Option, refl, ap, ◌∙◌, subst, ⊎_elim, arith}
 use mathlib.Core.Path.{fun_ext}
-use Rattle.std.proofs.lemmas.List.{length-set, length-map, get_or-set_same, get_or_past}
-use Rattle.std.proofs.lemmas.Bool.{cases_Bool, cases_eq, eq-eqb, ne_eqb}
-use Rattle.versions.specs.Meaning.{Meaning, kept, as_of, newest, put}
-use Rattle.versions.proofs.Lists.{sum_same}
+use Rattle.std.proofs.lemmas.List.{length-set, get_or-set_same}
+use Rattle.std.proofs.lemmas.Grind.{common_steps}
+use Rattle.std.proofs.lemmas.Bool.{cases_eq, eq-eqb, ne_eqb}
+use Rattle.versions.specs.Meaning.{Meaning, as_of, newest, put}
 use Rattle.versions.proofs.Meanings.{falls_more}
 use Rattle.chain.specs.declared.cell.Cell.{Cell}
 use Rattle.chain.specs.Links.{cell_at, cleared, list_from, version_at, version_of, first_below}
@@ -13,23 +13,10 @@ use Rattle.chain.proofs.Tallies.{times_self}
 use Rattle.chain.proofs.Chains.{list_step, versions_other}
 use Rattle.chain.proofs.Holdings.{with_list, Held, held_from_sound, settled, held_add, not_in_chain}
 
--- versions and unused cells together are all cells
-pub kept_and_unused : (heads : List (Option ℕ)) (cells : List Cell) (unused : Option ℕ) → Sound heads cells unused → kept (chained heads cells) + length (list_from cells unused) ≡ length cells
-kept_and_unused heads cells unused s =
-    let same = sum_same (length heads) (λ k. length (versions_of heads cells k)) (λ k. length (chain_of heads cells k)) (λ k low. length-map (chain_of heads cells k) (version_at cells)) in
-    omega (arith, s.held, same)
-
-pub versions_past : (heads : List (Option ℕ)) (cells : List Cell) (k : ℕ) → length heads ≤ k → versions_of heads cells k ≡ []
-versions_past heads cells k past = rw (get_or_past heads k None past) refl
-
 -- the newest version below a tick is that of the first cell below it
 pub as_of_first : (tick : ℕ) (cells : List Cell) (is : List ℕ) → version_of cells (first_below tick cells is) ≡ as_of tick (map (version_at cells) is)
 as_of_first tick cells [] = refl
-as_of_first tick cells (i ∷ is) =
-    ⊎_elim
-    (λ e. rw e refl)
-    (λ e. rw e (as_of_first tick cells is))
-    (cases_Bool (ltb (cell_at cells i).stamp tick))
+as_of_first tick cells (i ∷ is) = grind (arith, common_steps, as_of_first tick cells is)
 
 -- stores with the same keys, cells and versions mean the same
 pub meaning_same : (keys keys' cells cells' : ℕ) (f g : ℕ → List (ℕ × ℕ)) → keys ≡ keys' → cells ≡ cells' → ((k : ℕ) → f k ≡ g k) → ◌≡◌ {A = Meaning} (record { keys = keys; cells = cells; versions = f }) (record { keys = keys'; cells = cells'; versions = g })

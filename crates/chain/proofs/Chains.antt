@@ -1,11 +1,12 @@
 -- A list of cells as a relation between a link and the indices from it on.
 use Rattle.std.proofs.Common.{◌≡◌, ℕ, zero, suc, ◌<◌, ◌≤◌, Bool, true, false, cond, ltb, List, [], ◌∷◌, ◌++◌, map, length, set, Some, None, Option, sym, refl, ap, ◌∙◌, subst, ⊎_elim, arith}
 use mathlib.Core.Path.{fun_ext}
-use Rattle.std.proofs.lemmas.List.{length-set, get_or-set_same, get_or-set_other, set_past}
-use Rattle.std.proofs.lemmas.Bool.{false≢true, and_parts, and_from, ltb-true, lt-ltb, le-ltb, ne_eqb, cases_Bool, cases_eq, cases_lt}
+use Rattle.std.proofs.lemmas.List.{length-set, get_or-set_same, get_or-set_other}
+use Rattle.std.proofs.lemmas.Grind.{common_steps}
+use Rattle.std.proofs.lemmas.Bool.{false≢true, and_parts, and_from, ltb-true, lt-ltb, cases_Bool}
 use Rattle.chain.specs.declared.cell.Cell.{Cell}
 use Rattle.chain.specs.Links.{cell_at, cleared, walk, ends, list_from, Ends, inside, times, Once, version_at, first_below, behind, ended_at, given_back}
-use Rattle.chain.proofs.Tallies.{times_none, times_self, once_first, once_rest}
+use Rattle.chain.proofs.Tallies.{times_none, once_first, once_rest}
 
 abbrev pub Chain : List Cell → Option ℕ → List ℕ → Type 0
 Chain cells link [] = link ≡ None
@@ -62,25 +63,18 @@ list_step cells link i is e =
 -- every index of a chain is one of a cell
 pub chain_low : (cells : List Cell) (link : Option ℕ) (is : List ℕ) (i : ℕ) → Chain cells link is → 0 < times i is → i < length cells
 chain_low cells link [] i c some = absurd (omega arith)
-chain_low cells link (j ∷ js) i c some =
-    ⊎_elim
-    (λ (e : i ≡ j). rw e c.1)
-    (λ (e : i ≡ j → ⊥). let no' = ne_eqb i j e in let more = rw no' at some in chain_low cells (cell_at cells j).next js i c.2 (omega arith))
-    (cases_eq i j)
+chain_low cells link (j ∷ js) i c some = grind (arith, common_steps, chain_low cells (cell_at cells j).next js i c.2)
 
 pub chain_none : (cells : List Cell) (is : List ℕ) → Chain cells None is → is ≡ []
 chain_none cells [] c = refl
-chain_none cells (i ∷ is) c = absurd (let l = c.0 in let z : ◌≡◌ {A = ℕ} 0 1 = cc in omega arith)
+chain_none cells (i ∷ is) c = absurd (let l = c.0 in cc)
 
 -- a chain does not see a change of a cell that it does not hold
 pub chain_other : (cells : List Cell) (i : ℕ) (x : Cell) (link : Option ℕ) (is : List ℕ) → times i is ≡ 0 → Chain cells link is → Chain (set cells i x) link is
 chain_other cells i x link [] none c = c
 chain_other cells i x link (j ∷ js) none c =
-    let apart = times_none i j js none in (
-      c.0,
-      rw (length-set cells i x) c.1,
-      rw (get_or-set_other cells i j x (cleared None) apart.0) (chain_other cells i x (cell_at cells j).next js apart.1 c.2),
-    )
+    let apart = times_none i j js none in
+    (c.0, grind (arith, common_steps), rw (get_or-set_other cells i j x (cleared None) apart.0) (chain_other cells i x (cell_at cells j).next js apart.1 c.2))
 
 pub chain_push : (cells : List Cell) (i : ℕ) (x : Cell) (is : List ℕ) → i < length cells → times i is ≡ 0 → Chain cells x.next is → Chain (set cells i x) (Some i) (i ∷ is)
 chain_push cells i x is low none c = (
@@ -100,23 +94,11 @@ beyond tick cells (i ∷ is) = cond (ltb (cell_at cells i).stamp tick) is (beyon
 
 pub upto_beyond : (tick : ℕ) (cells : List Cell) (is : List ℕ) → upto tick cells is ++ beyond tick cells is ≡ is
 upto_beyond tick cells [] = refl
-upto_beyond tick cells (i ∷ is) =
-    ⊎_elim
-    (λ e. rw e refl)
-    (λ e. rw e (ap (λ (js : List ℕ). i ∷ js) (upto_beyond tick cells is)))
-    (cases_Bool (ltb (cell_at cells i).stamp tick))
+upto_beyond tick cells (i ∷ is) = grind (arith, common_steps, upto_beyond tick cells is)
 
 pub first_stands : (tick : ℕ) (cells : List Cell) (is : List ℕ) (j : ℕ) → first_below tick cells is ≡ Some j → 0 < times j is
-first_stands tick cells [] j found = absurd (let z : ◌≡◌ {A = ℕ} 0 1 = cc in omega arith)
-first_stands tick cells (i ∷ is) j found =
-    ⊎_elim
-    (λ (e : ltb (cell_at cells i).stamp tick ≡ true).
-    let f = rw e at found in
-    let same : i ≡ j = cc in
-    let s = times_self i is in
-    rw (← same) (omega arith))
-    (λ (e : ltb (cell_at cells i).stamp tick ≡ false). omega (arith, first_stands tick cells is j (rw e at found)))
-    (cases_Bool (ltb (cell_at cells i).stamp tick))
+first_stands tick cells [] j found = grind (arith, common_steps)
+first_stands tick cells (i ∷ is) j found = grind (arith, common_steps, first_stands tick cells is j)
 
 pub first_low : (tick : ℕ) (cells : List Cell) (link : Option ℕ) (i : ℕ) → Ends cells link → first_below tick cells (list_from cells link) ≡ Some i → i < length cells
 first_low tick cells link i e found =
@@ -124,7 +106,7 @@ first_low tick cells link i e found =
 
 pub first_inside : (tick : ℕ) (cells : List Cell) (link o : Option ℕ) → Ends cells link → o ≡ first_below tick cells (list_from cells link) → inside cells o ≡ true
 first_inside tick cells link None e found = refl
-first_inside tick cells link (Some i) e found = lt-ltb i (length cells) (first_low tick cells link i e (sym found))
+first_inside tick cells link (Some i) e found = grind (arith, common_steps, first_low tick cells link i e (sym found))
 
 pub length_ended : (cells : List Cell) (o : Option ℕ) → length (ended_at cells o) ≡ length cells
 length_ended cells None = refl
@@ -132,7 +114,7 @@ length_ended cells (Some i) = simp length-set
 
 ended_other : (cells : List Cell) (o : Option ℕ) (j : ℕ) → (o ≡ Some j → ⊥) → cell_at (ended_at cells o) j ≡ cell_at cells j
 ended_other cells None j apart = refl
-ended_other cells (Some i) j apart = get_or-set_other cells i j _ (cleared None) (λ same. apart (ap (λ (k : ℕ). Some k) (sym same)))
+ended_other cells (Some i) j apart = grind (arith, common_steps)
 
 pub chain_ended_other : (cells : List Cell) (o : Option ℕ) (link : Option ℕ) (is : List ℕ) → ((i : ℕ) → o ≡ Some i → times i is ≡ 0) → Chain cells link is → Chain (ended_at cells o) link is
 chain_ended_other cells None link is none c = c
@@ -164,21 +146,11 @@ chain_beyond tick cells link (i ∷ is) once c =
 -- versions do not see a change of a cell that is not theirs, nor the end of a list
 pub versions_other : (cells : List Cell) (i : ℕ) (x : Cell) (is : List ℕ) → times i is ≡ 0 → map (version_at (set cells i x)) is ≡ map (version_at cells) is
 versions_other cells i x [] none = refl
-versions_other cells i x (j ∷ js) none =
-    let apart = times_none i j js none in
-    rw (get_or-set_other cells i j x (cleared None) apart.0) (ap (λ (vs : List (ℕ × ℕ)). ((cell_at cells j).stamp, (cell_at cells j).value) ∷ vs) (versions_other cells i x js apart.1))
+versions_other cells i x (j ∷ js) none = grind (arith, common_steps, versions_other cells i x js)
 
 version_ended : (cells : List Cell) (o : Option ℕ) (j : ℕ) → version_at (ended_at cells o) j ≡ version_at cells j
 version_ended cells None j = refl
-version_ended cells (Some i) j =
-    ⊎_elim
-    (λ (e : j ≡ i).
-    ⊎_elim
-    (λ (low : i < length cells). rw (e, get_or-set_same cells i _ (cleared None) low) refl)
-    (λ (past : length cells ≤ i). rw (set_past cells i _ past) refl)
-    (cases_lt i (length cells)))
-    (λ (e : j ≡ i → ⊥). rw (get_or-set_other cells i j _ (cleared None) e) refl)
-    (cases_eq j i)
+version_ended cells (Some i) j = grind (arith, common_steps)
 
 pub versions_ended : (cells : List Cell) (o : Option ℕ) (is : List ℕ) → map (version_at (ended_at cells o)) is ≡ map (version_at cells) is
 versions_ended cells o is = let same : version_at (ended_at cells o) ≡ version_at cells = fun_ext (version_ended cells o) in rw same refl
@@ -215,6 +187,5 @@ gives cells link unused i is e once =
 -- a walk passes a cell whose stamp is not below the tick
 pub first_passes : (tick : ℕ) (cells : List Cell) (link : Option ℕ) (i : ℕ) → ListStep cells link i → tick ≤ (cell_at cells i).stamp → first_below tick cells (list_from cells (cell_at cells i).next) ≡ first_below tick cells (list_from cells link)
 first_passes tick cells link i s late =
-    let no' = le-ltb (cell_at cells i).stamp tick late in
-    let here : first_below tick cells (i ∷ list_from cells (cell_at cells i).next) ≡ first_below tick cells (list_from cells (cell_at cells i).next) = rw no' refl in
+    let here : first_below tick cells (i ∷ list_from cells (cell_at cells i).next) ≡ first_below tick cells (list_from cells (cell_at cells i).next) = grind (arith, common_steps) in
     sym here ∙ sym (ap (first_below tick cells) s.list)

@@ -1,16 +1,16 @@
 -- What holds of every chain store, and that an add keeps it.
-use Rattle.std.proofs.Common.{◌≡◌, ℕ, ◌+◌, ◌-◌, ◌<◌, ◌≤◌, eqb, List, length, get_or, set, Some, None, Ok, Err, Option, Result, sym, refl, ap, ◌∙◌, arith}
+use Rattle.std.proofs.Common.{◌≡◌, ℕ, ◌+◌, ◌-◌, ◌<◌, ◌≤◌, eqb, List, length, get_or, set, Some, None, Ok, Option, sym, refl, ap, ◌∙◌, arith}
 use Rattle.std.proofs.lemmas.List.{length-set}
-use Rattle.versions.specs.declared.fault.StoreFault.{StoreFault}
 use Rattle.versions.specs.declared.fault.StoreFault.TheVariants.{Full}
-use Rattle.versions.specs.Meaning.{Meaning, newest, newest_answer, add_answer, added, kept}
+use Rattle.versions.specs.Meaning.{newest, newest_answer, add_answer, added, kept}
 use Rattle.versions.proofs.Meanings.{newest_ok, add_full, add_fine, added_refused, added_done}
 use Rattle.chain.specs.declared.cell.Cell.{Cell}
 use Rattle.chain.specs.declared.store.ChainStore.{ChainStore}
 use Rattle.chain.specs.Links.{cell_at, filled, list_from}
 use Rattle.chain.specs.Store.{versions_of, chained, Sound, Falling}
 use Rattle.chain.proofs.Chains.{list_step}
-use Rattle.chain.proofs.Adds.{kept_and_unused, adds, added_falls, added_means}
+use Rattle.chain.specs.Laws.{kept_and_unused}
+use Rattle.chain.proofs.Adds.{adds, added_falls, added_means}
 
 pub record Facts (heads : List (Option ℕ)) (cells : List Cell) (unused : Option ℕ) (free : ℕ) : Type 0 where
   pub few : length heads ≤ 1024
@@ -53,10 +53,6 @@ module _ (heads heads' : List (Option ℕ)) (cells cells' : List Cell) (unused u
       }
 
 module _ (heads : List (Option ℕ)) (cells : List Cell) (unused : Option ℕ) (free : ℕ) (f : Facts heads cells unused free) where
-  pub record Answers (told : Result (Unit {0}) StoreFault) (left : Meaning) (key stamp value : ℕ) : Type 0 where
-    pub answer : told ≡ add_answer (chained heads cells) key stamp
-    pub after : left ≡ added (chained heads cells) key stamp value
-
   module _ (key stamp value : ℕ) (told : ℕ × ℕ) (ok : Ok told ≡ newest_answer (chained heads cells) key) (later : told.0 < stamp) where
     known : key < length heads
     known = (newest_ok (chained heads cells) key told ok).0
@@ -65,31 +61,29 @@ module _ (heads : List (Option ℕ)) (cells : List Cell) (unused : Option ℕ) (
     above = omega (arith, ap (λ (p : ℕ × ℕ). p.0) (newest_ok (chained heads cells) key told ok).1, later)
 
     -- with no unused cell the add is refused
-    pub answers_full : unused ≡ None → Answers (Err (Full key)) (chained heads cells) key stamp value
-    answers_full none =
+    pub added_none : unused ≡ None → chained heads cells ≡ added (chained heads cells) key stamp value
+    added_none none =
         let all = kept_and_unused heads cells unused f.sound in
         let nothing : length (list_from cells unused) ≡ 0 = rw none refl in
-        let full = add_full (chained heads cells) key stamp known above (omega (arith, all, nothing)) in
-        record { answer = sym full; after = added_refused (chained heads cells) key stamp value (Full key) full }
+        added_refused (chained heads cells) key stamp value (Full key) (add_full (chained heads cells) key stamp known above (omega (arith, all, nothing)))
 
     -- what an add leaves, as the call of push tells it
     pub record Adding (heads' : List (Option ℕ)) (cells' : List Cell) (unused' : Option ℕ) : Type 0 where
       pub facts : Facts heads' cells' unused' (free - 1)
-      pub answers : Answers (Ok tt) (chained heads' cells') key stamp value
+      pub answer : Ok tt ≡ add_answer (chained heads cells) key stamp
+      pub after : chained heads' cells' ≡ added (chained heads cells) key stamp value
 
-    pub adding : (cell : ℕ) → unused ≡ Some cell → (heads₀ heads' : List (Option ℕ)) (cells₀ cells' : List Cell) (unused' : Option ℕ) → heads₀ ≡ heads → cells₀ ≡ cells
-        → unused' ≡ (cell_at cells₀ cell).next → heads' ≡ set heads₀ key (Some cell) → cells' ≡ set cells₀ cell (record { stamp = stamp; value = value; next = get_or heads₀ key None })
+    pub adding : (cell : ℕ) → unused ≡ Some cell → (heads' : List (Option ℕ)) (cells' : List Cell) (unused' : Option ℕ)
+        → unused' ≡ (cell_at cells cell).next → heads' ≡ set heads key (Some cell) → cells' ≡ set cells cell (record { stamp = stamp; value = value; next = get_or heads key None })
         → Adding heads' cells' unused'
-    adding cell some heads₀ heads' cells₀ cells' unused' same same' rest head filled =
+    adding cell some heads' cells' unused' rest head filled =
         let x : Cell = record { stamp = stamp; value = value; next = get_or heads key None } in
         let a = adds heads cells key cell x unused f.sound some known refl in
         let all = kept_and_unused heads cells unused f.sound in
         let fine = add_fine (chained heads cells) key stamp known above (omega (arith, all, a.spare)) in
-        let e₁ : heads' ≡ set heads key (Some cell) = head ∙ ap (λ (hs : List (Option ℕ)). set hs key (Some cell)) same in
-        let e₂ : cells' ≡ set cells cell x = filled ∙ rw (same, same') refl in
-        let e₃ : unused' ≡ (cell_at cells cell).next = rest ∙ ap (λ (cs : List Cell). (cell_at cs cell).next) same' in
-        rw (e₁, e₂, e₃)
+        rw (head, filled, rest)
         (record {
           facts = facts_kept heads (set heads key (Some cell)) cells (set cells cell x) unused (cell_at cells cell).next free (free - 1) f (length-set heads key (Some cell)) (length-set cells cell x) a.sound (omega (arith, free_is heads cells unused free f, a.spare)) (added_falls heads cells key cell x unused a above f.falling);
-          answers = record { answer = sym fine; after = added_means heads cells key cell x unused a ∙ added_done (chained heads cells) key stamp value fine };
+          answer = sym fine;
+          after = added_means heads cells key cell x unused a ∙ added_done (chained heads cells) key stamp value fine;
         })

@@ -2,7 +2,8 @@
 use Rattle.std.proofs.Common.{◌≡◌, ℕ, ◌+◌, ◌<◌, ◌≤◌, cond, eqb, List, [], ◌∷◌, map, length, get_or, set, Some, None, Option, sym, refl, ap, ◌∙◌, subst, ⊎_elim, arith}
 use mathlib.Core.Path.{fun_ext}
 use Rattle.std.proofs.lemmas.List.{length-set, length-append, get_or-set_same, get_or-set_other, get_or_past}
-use Rattle.std.proofs.lemmas.Bool.{cases_eq, cases_lt, eq-eqb, ne_eqb}
+use Rattle.std.proofs.lemmas.Grind.{common_steps}
+use Rattle.std.proofs.lemmas.Bool.{cases_eq, eq-eqb, ne_eqb}
 use Rattle.versions.specs.Meaning.{sum_below}
 use Rattle.chain.specs.declared.cell.Cell.{Cell}
 use Rattle.chain.specs.Links.{cell_at, cleared, list_from, Ends, times, Once, version_at, first_below, behind, ended_at, given_back}
@@ -22,10 +23,10 @@ with_list_cases P k is lists here there j =
     (cases_eq k j)
 
 pub with_list_same : (k : ℕ) (is : List ℕ) (lists : ℕ → List ℕ) → with_list k is lists k ≡ is
-with_list_same k is lists = let t = eq-eqb k k refl in rw t refl
+with_list_same k is lists = grind (arith, common_steps)
 
 pub with_list_other : (k : ℕ) (is : List ℕ) (lists : ℕ → List ℕ) (j : ℕ) → (k ≡ j → ⊥) → with_list k is lists j ≡ lists j
-with_list_other k is lists j apart = let f = ne_eqb k j apart in rw f refl
+with_list_other k is lists j apart = grind (arith, common_steps)
 
 -- the sum over the lists after one has changed
 sum_with : (f : List ℕ → ℕ) (n k : ℕ) (is : List ℕ) (lists : ℕ → List ℕ) → k < n → sum_below n (λ j. f (with_list k is lists j)) + f (lists k) ≡ sum_below n (λ j. f (lists j)) + f is
@@ -48,37 +49,17 @@ module _ (heads : List (Option ℕ)) (cells : List Cell) (chains : ℕ → List 
 
   -- what is unused or loose is in no chain
   pub not_in_chain : (i k : ℕ) → 0 < times i ls + times i us → times i (chains k) ≡ 0
-  not_in_chain i k some =
-      ⊎_elim
-      (λ (low : k < length heads). omega (arith, held.once i, sum_has (length heads) (λ j. times i (chains j)) k low))
-      (λ (past : length heads ≤ k). ap (times i) (none_past k past))
-      (cases_lt k (length heads))
+  not_in_chain i k some = grind (arith, common_steps, held.once i, sum_has (length heads) (λ j. times i (chains j)) k, none_past k)
 
   -- what is in one chain is in no other
   pub not_in_other : (i k j : ℕ) → (k ≡ j → ⊥) → 0 < times i (chains k) → times i (chains j) ≡ 0
-  not_in_other i k j apart some =
-      ⊎_elim
-      (λ (low : k < length heads).
-      ⊎_elim
-      (λ (low' : j < length heads). omega (arith, held.once i, sum_two (length heads) (λ m. times i (chains m)) k j low low' apart))
-      (λ (past : length heads ≤ j). ap (times i) (none_past j past))
-      (cases_lt j (length heads)))
-      (λ (past : length heads ≤ k). absurd (omega (arith, ap (times i) (none_past k past))))
-      (cases_lt k (length heads))
+  not_in_other i k j apart some = grind (arith, common_steps, held.once i, sum_two (length heads) (λ m. times i (chains m)) k j, none_past j, none_past k)
 
   pub chain_once : (k : ℕ) → Once (chains k)
-  chain_once k i =
-      ⊎_elim
-      (λ (low : k < length heads). omega (arith, held.once i, sum_has (length heads) (λ j. times i (chains j)) k low))
-      (λ (past : length heads ≤ k). omega (arith, ap (times i) (none_past k past)))
-      (cases_lt k (length heads))
+  chain_once k i = grind (arith, common_steps, held.once i, sum_has (length heads) (λ j. times i (chains j)) k, none_past k)
 
   pub chain_short : (k : ℕ) → length (chains k) ≤ length cells
-  chain_short k =
-      ⊎_elim
-      (λ (low : k < length heads). omega (arith, held.whole, sum_has (length heads) (λ j. length (chains j)) k low))
-      (λ (past : length heads ≤ k). omega (arith, ap length (none_past k past)))
-      (cases_lt k (length heads))
+  chain_short k = grind (arith, common_steps, held.whole, sum_has (length heads) (λ j. length (chains j)) k, none_past k)
 
 -- what a store's own facts hold
 pub held_from_sound : (heads : List (Option ℕ)) (cells : List Cell) (unused : Option ℕ) → Sound heads cells unused → Held heads cells (chain_of heads cells) unused (list_from cells unused) None []

@@ -1,24 +1,21 @@
 -- What a prune of one chain after the other makes of a chain store.
-use Rattle.std.proofs.Common.{◌≡◌, ℕ, ◌+◌, ◌<◌, ◌≤◌, ltb, List, [], ◌∷◌, map, length, None, Option, sym, refl, ap, ◌∙◌, subst, ⊎_elim, arith}
-use Rattle.std.proofs.lemmas.List.{get_or_past}
-use Rattle.std.proofs.lemmas.Bool.{cases_Bool, cases_eq, cases_lt}
+use Rattle.std.proofs.Common.{◌≡◌, ℕ, ◌+◌, ◌<◌, ◌≤◌, List, [], ◌∷◌, map, length, Option, sym, refl, ap, ◌∙◌, subst, ⊎_elim, arith}
+use Rattle.std.proofs.lemmas.Grind.{common_steps}
+use Rattle.std.proofs.lemmas.Bool.{cases_eq}
 use Rattle.versions.specs.Meaning.{kept, survivors, pruned}
 use Rattle.versions.proofs.Meanings.{cut, survivors_cut, falls_cut, dead_and_kept}
 use Rattle.chain.specs.declared.cell.Cell.{Cell}
-use Rattle.chain.specs.Links.{cell_at, list_from, Ends, times, Once, version_at, first_below, behind, ended_at, given_back}
+use Rattle.chain.specs.Links.{list_from, Ends, times, Once, version_at, first_below, behind, ended_at, given_back}
 use Rattle.chain.specs.Store.{chain_of, versions_of, chained, Sound, Falling, Pruned}
 use Rattle.chain.proofs.Chains.{walk_from_chain, upto, beyond, length_ended, versions_ended}
 use Rattle.chain.proofs.Holdings.{with_list, with_list_same, with_list_other, Held, held_from_sound, settled, held_cut, held_give_all, onto, length_onto}
-use Rattle.chain.proofs.Adds.{kept_and_unused, meaning_same}
+use Rattle.chain.specs.Laws.{kept_and_unused}
+use Rattle.chain.proofs.Adds.{meaning_same}
 
 -- the chain up to its first cell below a tick has the versions up to the first below it
 versions_upto : (tick : ℕ) (cells : List Cell) (is : List ℕ) → map (version_at cells) (upto tick cells is) ≡ cut tick (map (version_at cells) is)
 versions_upto tick cells [] = refl
-versions_upto tick cells (i ∷ is) =
-    ⊎_elim
-    (λ e. rw e refl)
-    (λ e. rw e (ap (λ (vs : List (ℕ × ℕ)). version_at cells i ∷ vs) (versions_upto tick cells is)))
-    (cases_Bool (ltb (cell_at cells i).stamp tick))
+versions_upto tick cells (i ∷ is) = grind (arith, common_steps, versions_upto tick cells is)
 
 -- the chains of the keys below k are pruned, the others are as they were
 pub record Pruning (tick : ℕ) (heads : List (Option ℕ)) (old : List Cell) (spare : Option ℕ) (cells : List Cell) (unused : Option ℕ) (count k : ℕ) : Type 0 where
@@ -27,10 +24,6 @@ pub record Pruning (tick : ℕ) (heads : List (Option ℕ)) (old : List Cell) (s
   pub ahead : (j : ℕ) → k ≤ j → versions_of heads cells j ≡ versions_of heads old j
   pub long : length cells ≡ length old
   pub freed : length (list_from cells unused) ≡ length (list_from old spare) + count
-
-pub pruning_none : (tick : ℕ) (heads : List (Option ℕ)) (cells : List Cell) (unused : Option ℕ) → Sound heads cells unused → Pruning tick heads cells unused cells unused 0 0
-pruning_none tick heads cells unused s =
-    record { sound = s; behind = λ j low. absurd (omega arith); ahead = λ j low. refl; long = refl; freed = omega arith }
 
 -- one chain is cut
 module _ (tick : ℕ) (heads : List (Option ℕ)) (cells : List Cell) (unused : Option ℕ) (k : ℕ) (low : k < length heads) (s : Sound heads cells unused) where
@@ -102,10 +95,7 @@ module _ (tick : ℕ) (heads : List (Option ℕ)) (old : List Cell) (spare : Opt
 pub pruning_all : (tick : ℕ) (heads : List (Option ℕ)) (old : List Cell) (spare : Option ℕ) (cells : List Cell) (unused : Option ℕ) (count k : ℕ) → length heads ≤ k → Sound heads old spare → Falling heads old → Pruning tick heads old spare cells unused count k → Pruned tick heads old cells unused count
 pruning_all tick heads old spare cells unused count k end sound falling p =
     let versions : (j : ℕ) → versions_of heads cells j ≡ survivors tick (versions_of heads old j) = λ j.
-    ⊎_elim
-    (λ (low : j < k). p.behind j low)
-    (λ (past : k ≤ j). let off : length heads ≤ j = omega arith in rw (get_or_past heads j None off) refl)
-    (cases_lt j k) in
+    grind (arith, common_steps, p.behind j) in
     let after : chained heads cells ≡ pruned (chained heads old) tick = meaning_same (length heads) (length heads) (length cells) (length old) (versions_of heads cells) (λ j. survivors tick (versions_of heads old j)) refl p.long versions in
     let fewer : kept (chained heads cells) + count ≡ kept (chained heads old) = omega (arith, kept_and_unused heads old spare sound, kept_and_unused heads cells unused p.sound, p.freed, p.long) in
     record {

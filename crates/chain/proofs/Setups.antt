@@ -1,16 +1,17 @@
 -- A store just made: all its cells are unused.
-use Rattle.std.proofs.Common.{◌≡◌, ℕ, zero, suc, ◌+◌, ◌<◌, ◌≤◌, true, false, ◌||◌, eqb, ltb, List, [], ◌∷◌, ◌++◌, length, get_or, take, set, replicate, is_err, Some, None, Ok, Option, sym, refl, ap, ◌∙◌, subst, ⊎_elim, add-one, arith}
-use Rattle.std.proofs.lemmas.List.{take_more_set, length_push, length-replicate, get_or_append_left, get_or_at, get_or-replicate, get_or_past}
-use Rattle.std.proofs.lemmas.Bool.{cases_Bool, cases_eq, cases_lt, ne_eqb, eqb-true, eqb-false, ltb-false, or_parts, true≢false}
+use Rattle.std.proofs.Common.{◌≡◌, ℕ, zero, suc, ◌+◌, ◌<◌, ◌≤◌, false, eqb, List, [], ◌∷◌, ◌++◌, length, get_or, take, set, replicate, is_err, Some, None, Ok, Option, sym, refl, ap, ◌∙◌, add-one, arith}
+use Rattle.std.proofs.lemmas.List.{take_more_set, length_push, length-replicate, get_or_append_left, get_or_at}
+use Rattle.std.proofs.lemmas.Grind.{common_steps}
+use Rattle.std.proofs.lemmas.Bool.{ne_eqb}
 use Rattle.versions.specs.Meaning.{empty, made}
 use Rattle.versions.proofs.Lists.{sum_none}
 use Rattle.chain.specs.declared.cell.Cell.{Cell}
 use Rattle.chain.specs.Links.{cell_at, cleared, times, Once, before, laid}
 use Rattle.chain.specs.Store.{versions_of, chained, chain_set_up}
-use Rattle.chain.proofs.Tallies.{times_self}
 use Rattle.chain.proofs.Chains.{Chain}
 use Rattle.chain.proofs.Holdings.{Held, settled}
-use Rattle.chain.proofs.Adds.{kept_and_unused, meaning_same}
+use Rattle.chain.specs.Laws.{kept_and_unused}
+use Rattle.chain.proofs.Adds.{meaning_same}
 use Rattle.chain.proofs.Facts.{Facts}
 
 pub length_laid : (n : ℕ) → length (laid n) ≡ n
@@ -28,17 +29,11 @@ length_downs (suc n) = omega (arith, length_downs n)
 
 times_downs : (i n : ℕ) → n ≤ i → times i (downs n) ≡ 0
 times_downs i zero past = refl
-times_downs i (suc n) past =
-    let no' = ne_eqb i n (λ e. omega arith) in
-    rw no' (omega (arith, times_downs i n (omega arith)))
+times_downs i (suc n) past = grind (arith, common_steps, times_downs i n)
 
 once_downs : (n : ℕ) → Once (downs n)
 once_downs zero i = omega arith
-once_downs (suc n) i =
-    ⊎_elim
-    (λ (e : i ≡ n). subst (λ (m : ℕ). times m (n ∷ downs n) ≤ 1) (sym e) (omega (arith, times_self n (downs n), times_downs n n (omega arith))))
-    (λ (e : i ≡ n → ⊥). let no' = ne_eqb i n e in rw no' (omega (arith, once_downs n i)))
-    (cases_eq i n)
+once_downs (suc n) i = grind (arith, common_steps, times_downs n n, once_downs n i)
 
 -- a chain does not see a cell more
 chain_append : (cells : List Cell) (x : Cell) (link : Option ℕ) (is : List ℕ) → Chain cells link is → Chain (cells ++ x ∷ []) link is
@@ -61,11 +56,7 @@ abbrev pub no_heads : ℕ → List (Option ℕ)
 no_heads keys = replicate keys None
 
 no_head : (keys k : ℕ) → get_or (no_heads keys) k None ≡ None
-no_head keys k =
-    ⊎_elim
-    (λ (low : k < keys). get_or-replicate keys k None None low)
-    (λ (past : keys ≤ k). get_or_past (no_heads keys) k None (omega (arith, length-replicate {A = Option ℕ} keys None)))
-    (cases_lt k keys)
+no_head keys k = grind (arith, common_steps)
 
 held_laid : (keys n : ℕ) → Held (no_heads keys) (laid n) (λ k. []) (before n) (downs n) None []
 held_laid keys n =
@@ -114,39 +105,20 @@ pub record Passed (keys heads cells : ℕ) : Type 0 where
   pub some_cells : 0 < cells
   pub few_cells : cells ≤ 2048
 
-within : (n most : ℕ) → (eqb n 0 || ltb most n) ≡ false → (0 < n) × (n ≤ most)
-within n most e =
-    let parts = or_parts (eqb n 0) (ltb most n) e in
-    let some = eqb-false n 0 parts.0 in
-    (omega arith, ltb-false most n parts.1)
-
 pub passed : (keys heads cells : ℕ) → is_err (chain_set_up keys heads cells) ≡ false → Passed keys heads cells
-passed keys heads cells ok =
-    ⊎_elim
-    (λ (e : (eqb keys 0 || ltb 1024 keys) ≡ true). absurd (true≢false (rw e at ok)))
-    (λ (e : (eqb keys 0 || ltb 1024 keys) ≡ false).
-    let ok₁ = rw e at ok in
-    ⊎_elim
-    (λ (e₁ : (eqb cells 0 || ltb 2048 cells) ≡ true). absurd (true≢false (rw e₁ at ok₁)))
-    (λ (e₁ : (eqb cells 0 || ltb 2048 cells) ≡ false).
-    let ok₂ = rw e₁ at ok₁ in
-    ⊎_elim
-    (λ (e₂ : eqb heads keys ≡ true).
-    let k = within keys 1024 e in
-    let n = within cells 2048 e₁ in
-    record { answer = rw (e, e₁, e₂) refl; heads_keys = eqb-true heads keys e₂; some_keys = k.0; few_keys = k.1; some_cells = n.0; few_cells = n.1 })
-    (λ (e₂ : eqb heads keys ≡ false). absurd (true≢false (rw e₂ at ok₂)))
-    (cases_Bool (eqb heads keys)))
-    (cases_Bool (eqb cells 0 || ltb 2048 cells)))
-    (cases_Bool (eqb keys 0 || ltb 1024 keys))
+passed keys heads cells ok = record {
+  answer = grind (arith, common_steps);
+  heads_keys = grind (arith, common_steps);
+  some_keys = grind (arith, common_steps);
+  few_keys = grind (arith, common_steps);
+  some_cells = grind (arith, common_steps);
+  few_cells = grind (arith, common_steps);
+}
 
 -- a store just made, as the calls that clear its heads and link its cells tell it
 pub record Making (keys h n : ℕ) (heads : List (Option ℕ)) (cells : List Cell) (unused : Option ℕ) : Type 0 where
   pub facts : Facts heads cells unused (length cells)
   pub empty : chained heads cells ≡ made (chain_set_up keys h n) keys n
-  pub no_head : heads ≡ no_heads (length heads)
-  pub all_linked : cells ≡ laid (length cells)
-  pub all_unused : unused ≡ before (length cells)
 
 pub making : (keys h n : ℕ) (heads : List (Option ℕ)) (cells : List Cell) (unused : Option ℕ) → is_err (chain_set_up keys h n) ≡ false → heads ≡ no_heads h → cells ≡ laid n → unused ≡ before n → Making keys h n heads cells unused
 making keys h n heads cells unused ok is-heads is-cells is-unused =
@@ -154,13 +126,9 @@ making keys h n heads cells unused ok is-heads is-cells is-unused =
     let none = ne_eqb keys 0 (λ e. omega (arith, p.some_keys)) in
     let none' = ne_eqb n 0 (λ e. omega (arith, p.some_cells)) in
     let long : length cells ≡ n = ap length is-cells ∙ length_laid n in
-    let long' : length heads ≡ keys = ap length is-heads ∙ length-replicate {A = Option ℕ} h None ∙ p.heads_keys in
     let e : heads ≡ no_heads keys = is-heads ∙ ap no_heads p.heads_keys in
     let f = facts_laid keys n p.few_keys p.few_cells (none ∙ sym none') in
     record {
       facts = rw (long, e, is-cells, is-unused) f;
       empty = rw (e, is-cells, p.answer) (laid_means keys n);
-      no_head = e ∙ ap no_heads (sym long');
-      all_linked = is-cells ∙ ap laid (sym long);
-      all_unused = is-unused ∙ ap before (sym long);
     }

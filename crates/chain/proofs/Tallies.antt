@@ -1,18 +1,16 @@
 -- How often an index stands in a list, and sums of numbers told by a function.
-use Rattle.std.proofs.Common.{◌≡◌, ℕ, zero, suc, ◌+◌, ◌<◌, ◌≤◌, List, [], ◌∷◌, ◌++◌, sym, refl, ap, ⊎_elim, arith}
-use Rattle.std.proofs.lemmas.Bool.{cases_eq, eq-eqb}
+use Rattle.std.proofs.Common.{◌≡◌, ℕ, zero, suc, ◌+◌, ◌<◌, ◌≤◌, List, [], ◌∷◌, ◌++◌, ap, ⊎_elim, arith}
+use Rattle.std.proofs.lemmas.Grind.{common_steps}
+use Rattle.std.proofs.lemmas.Bool.{cases_eq}
 use Rattle.versions.specs.Meaning.{sum_below}
 use Rattle.versions.proofs.Lists.{sum_same}
 use Rattle.chain.specs.Links.{times, Once}
 
 pub times_self : (i : ℕ) (is : List ℕ) → times i (i ∷ is) ≡ suc (times i is)
-times_self i is = let e = eq-eqb i i refl in rw e (omega arith)
+times_self i is = grind (arith, common_steps)
 
 pub times_none : (i j : ℕ) (js : List ℕ) → times i (j ∷ js) ≡ 0 → (j ≡ i → ⊥) × (times i js ≡ 0)
-times_none i j js none = (
-  λ same. let e = eq-eqb i j (sym same) in let n = rw e at none in omega arith,
-  omega arith,
-)
+times_none i j js none = (grind (arith, common_steps), grind (arith, common_steps))
 
 pub times_append : (i : ℕ) (is js : List ℕ) → times i (is ++ js) ≡ times i is + times i js
 times_append i [] js = omega arith
@@ -28,23 +26,11 @@ once_rest i is once j = let o = once j in omega arith
 -- one of the numbers, and two of them, are no more than the sum
 pub sum_has : (n : ℕ) (f : ℕ → ℕ) (k : ℕ) → k < n → f k ≤ sum_below n f
 sum_has zero f k low = absurd (omega arith)
-sum_has (suc n) f k low =
-    ⊎_elim
-    (λ (e : k ≡ n). omega (arith, ap f e))
-    (λ (e : k ≡ n → ⊥). omega (arith, sum_has n f k (omega arith)))
-    (cases_eq k n)
+sum_has (suc n) f k low = let rest = sum_has n f k in grind (arith, common_steps, rest)
 
 pub sum_two : (n : ℕ) (f : ℕ → ℕ) (j k : ℕ) → j < n → k < n → (j ≡ k → ⊥) → f j + f k ≤ sum_below n f
 sum_two zero f j k low low' apart = absurd (omega arith)
-sum_two (suc n) f j k low low' apart =
-    ⊎_elim
-    (λ (e : j ≡ n). omega (arith, ap f e, sum_has n f k (omega arith)))
-    (λ (e : j ≡ n → ⊥).
-    ⊎_elim
-    (λ (e' : k ≡ n). omega (arith, ap f e', sum_has n f j (omega arith)))
-    (λ (e' : k ≡ n → ⊥). omega (arith, sum_two n f j k (omega arith) (omega arith) apart))
-    (cases_eq k n))
-    (cases_eq j n)
+sum_two (suc n) f j k low low' apart = let rest = sum_two n f j k in grind (arith, common_steps, rest, sum_has n f j, sum_has n f k)
 
 -- the sum after one of the numbers has changed
 pub sum_change : (n : ℕ) (f g : ℕ → ℕ) (k : ℕ) → k < n → ((j : ℕ) → (k ≡ j → ⊥) → g j ≡ f j) → sum_below n g + f k ≡ sum_below n f + g k

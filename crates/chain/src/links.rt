@@ -1,3 +1,5 @@
+// Cells name each other by index, since the engine and what is below it have no heap: all memory is lent.
+// These are small functions over plain lent slices, as the project asks of the core; `ChainStore` keeps their facts as ghost fields.
 ghost use Rattle.std.specs.Prelude.{◌≡◌, ◌^◌, ◌<◌, true, map, length, replicate, Some, None, slice_index_or, slice_set};
 ghost use Rattle.versions.specs.Meaning.{as_of};
 ghost use Rattle.chain.specs.Links.{Ends, Once, list_from, inside, version_at, version_of, first_below, behind, ended_at, given_back, cell_at, filled, before, laid};
@@ -6,15 +8,6 @@ ghost use Rattle.chain.specs.Store.{Sound, Falling, Pruned};
 use crate::cell::{Cell, Link};
 use versions::store::Version;
 
-/// Makes all items blank.
-pub fn clear<T: Copy>(items: &mut [T], blank: T)
-    ensures { items.new ≡ replicate (length items.old) blank }
-{
-    for item in items.iter_mut() {
-        *item = blank;
-    }
-}
-
 /// Clears all cells and links them as unused, each to the one before it. Answers the link to the last of them.
 pub fn link_all(cells: &mut [Cell]) -> Link
     requires { length cells.old < 2 ^ 16 }
@@ -22,12 +15,12 @@ pub fn link_all(cells: &mut [Cell]) -> Link
     ensures after { cells.new ≡ laid (length cells.old) }
 {
     let mut unused = None;
-    for i in 0..cells.len() {
-        cells[i] = Cell {
-            stamp: 0,
-            value: 0,
+    for (i, cell) in cells.iter_mut().enumerate() {
+        *cell = Cell {
             next: unused,
+            ..Cell::CLEARED
         };
+        // `u16` has no `From<usize>`; the bound on the cells shows that it fits.
         unused = Some(i as u16);
     }
     unused
@@ -38,12 +31,13 @@ pub fn version(cells: &[Cell], link: Link) -> (u32, u64)
     requires { inside cells.now link ≡ true }
     ensures { result ≡ version_of cells.now link }
 {
-    match link {
-        Some(i) => (cells[i as usize].stamp, cells[i as usize].value),
-        None => (0, 0),
-    }
+    link.map_or((0, 0), |i| {
+        let cell = cells[usize::from(i)];
+        (cell.stamp, cell.value)
+    })
 }
 
+// A list of links is walked by `while let`; no library iterator follows them.
 /// The first cell of the list from a link on whose stamp is below the tick.
 pub fn find_below(cells: &[Cell], from: Link, tick: u32) -> Link
     requires { Ends cells.now from }
@@ -51,7 +45,7 @@ pub fn find_below(cells: &[Cell], from: Link, tick: u32) -> Link
 {
     let mut link = from;
     while let Some(i) = link {
-        let cell = cells[i as usize];
+        let cell = cells[usize::from(i)];
         if cell.stamp < tick {
             return link;
         }
@@ -78,13 +72,13 @@ pub fn push(heads: &mut [Link], cells: &mut [Cell], cell: u16, version: Version)
     ensures filled { cells.new ≡ slice_set cells.old cell (filled version (slice_index_or heads.old version.key None)) }
 {
     let Version { key, stamp, value } = version;
-    let rest = cells[cell as usize].next;
-    cells[cell as usize] = Cell {
+    let rest = cells[usize::from(cell)].next;
+    cells[usize::from(cell)] = Cell {
         stamp,
         value,
-        next: heads[key as usize],
+        next: heads[usize::from(key)],
     };
-    heads[key as usize] = Some(cell);
+    heads[usize::from(key)] = Some(cell);
     rest
 }
 
@@ -94,14 +88,8 @@ pub fn cut_below(cells: &mut [Cell], from: Link, tick: u32) -> Link
     ensures tail { result ≡ behind cells.old (first_below tick cells.old (list_from cells.old from)) }
     ensures after { cells.new ≡ ended_at cells.old (first_below tick cells.old (list_from cells.old from)) }
 {
-    match find_below(cells, from, tick) {
-        Some(i) => {
-            let tail = cells[i as usize].next;
-            cells[i as usize].next = None;
-            tail
-        }
-        None => None,
-    }
+    let found = usize::from(find_below(cells, from, tick)?);
+    cells[found].next.take()
 }
 
 /// Clears each cell of the list from a link on and puts it in front of the unused ones.
@@ -118,11 +106,10 @@ pub fn give_back(cells: &mut [Cell], from: Link, unused: Link) -> (Link, u16)
     let mut count = 0;
     let mut link = from;
     while let Some(i) = link {
-        link = cells[i as usize].next;
-        cells[i as usize] = Cell {
-            stamp: 0,
-            value: 0,
+        link = cells[usize::from(i)].next;
+        cells[usize::from(i)] = Cell {
             next: unused,
+            ..Cell::CLEARED
         };
         unused = Some(i);
         count += 1;

@@ -2,10 +2,10 @@ ghost use Rattle.std.specs.Prelude.{◌≡◌, ◌+◌, ◌≤◌, length, repli
 ghost use Rattle.versions.specs.Meaning.{kept, made};
 ghost use Rattle.chain.specs.Links.{Ends, before, laid};
 ghost use Rattle.chain.specs.Store.{chained, ChainsEnd, NoneShared, AllHeld, Falling, chain_set_up, head_answer};
+ghost use Rattle.chain.specs.Laws.{chain_lawful};
 
 use crate::cell::{Cell, Link};
-use crate::links::{clear, link_all, prune_chains, push, version, version_below};
-use std::mem;
+use crate::links::{link_all, prune_chains, push, version, version_below};
 use versions::fault::StoreFault;
 use versions::store::{MAX_CELLS, MAX_KEYS, Version, VersionStore};
 
@@ -38,7 +38,7 @@ impl<'h, 'c> ChainStore<'h, 'c> {
         if cells == 0 || cells > MAX_CELLS {
             return Err(StoreFault::Cells(cells));
         }
-        if heads != keys as usize {
+        if heads != usize::from(keys) {
             return Err(StoreFault::Heads(heads));
         }
         Ok(())
@@ -50,9 +50,9 @@ impl<'h, 'c> ChainStore<'h, 'c> {
         ensures cleared { (result.heads.now ≡ replicate (length result.heads.now) None) × (result.cells.now ≡ laid (length result.cells.now)) }
         ensures unused { result.unused ≡ before (length result.cells.now) }
     {
-        clear(heads, None);
+        heads.fill(None);
         if Self::check(keys, heads.len(), cells.len()).is_err() {
-            clear(cells, Cell::CLEARED);
+            cells.fill(Cell::CLEARED);
             return ChainStore {
                 heads: &mut [],
                 cells: &mut [],
@@ -74,18 +74,19 @@ impl<'h, 'c> ChainStore<'h, 'c> {
     fn head(&self, key: u16) -> Result<Link, StoreFault>
         ensures { result ≡ head_answer self.now.heads.now key }
     {
-        if key as usize >= self.heads.len() {
-            return Err(StoreFault::KeyOutside(key));
-        }
-        Ok(self.heads[key as usize])
+        self.heads
+            .get(usize::from(key))
+            .copied()
+            .ok_or(StoreFault::KeyOutside(key))
     }
 }
 
 impl<'h, 'c> VersionStore for ChainStore<'h, 'c> {
     ghost meaning = { λ s. chained s.heads.now s.cells.now };
 
-    fn attest(&self) {}
+    ghost lawful = { λ s. chain_lawful s.heads.now s.cells.now s.unused s.few s.small s.both (record { chains = s.chains; rest = s.rest; shared = s.shared; held = s.held }) s.falling };
 
+    // `u16` has no `From<usize>`: here and below the ghost fields show that the number fits.
     fn keys(&self) -> u16 {
         self.heads.len() as u16
     }
@@ -105,28 +106,18 @@ impl<'h, 'c> VersionStore for ChainStore<'h, 'c> {
         if stamp <= newest {
             return Err(StoreFault::StaleStamp(key));
         }
-        let Some(cell) = self.unused else {
-            return Err(StoreFault::Full(key));
-        };
-        let heads = mem::replace(&mut self.heads, &mut []);
-        let cells = mem::replace(&mut self.cells, &mut []);
-        let unused = push(heads, cells, cell, Version { key, stamp, value });
-        self.heads = heads;
-        self.cells = cells;
-        self.unused = unused;
+        let cell = self.unused.ok_or(StoreFault::Full(key))?;
+        self.unused = push(self.heads, self.cells, cell, Version { key, stamp, value });
         self.free -= 1;
         Ok(())
     }
 
     fn prune(&mut self, horizon: u32) -> u16 {
-        let unused = self.unused;
-        let heads = mem::replace(&mut self.heads, &mut []);
-        let cells = mem::replace(&mut self.cells, &mut []);
-        let (unused, count) = prune_chains(heads, cells, unused, horizon);
-        self.heads = heads;
-        self.cells = cells;
+        // A `&mut`, since what a field lends as `&` is not known to come back unchanged.
+        let heads = &mut *self.heads;
+        let (unused, count) = prune_chains(heads, self.cells, self.unused, horizon);
         self.unused = unused;
-        self.free += count as usize;
+        self.free += usize::from(count);
         count
     }
 

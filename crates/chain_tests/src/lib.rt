@@ -10,6 +10,7 @@ mod tests {
     use versions::log::LogStore;
     use versions::store::{Version, VersionStore};
 
+    // What lent memory holds before, and not `Cell::CLEARED`: a store has to clear it.
     const CELL: Cell = Cell {
         stamp: 7,
         value: 7,
@@ -22,57 +23,38 @@ mod tests {
         value: 7,
     };
 
-    // Whether an answer refuses with this number and place.
-    fn refuses(answer: Result<(), StoreFault>, number: u8, place: u64) -> bool {
-        match answer {
-            Ok(()) => false,
-            Err(fault) => fault.number() == number && fault.place() == place,
-        }
-    }
-
-    // Whether two answers to an add are the same, refusals by number and place.
-    fn same_end(a: Result<(), StoreFault>, b: Result<(), StoreFault>) -> bool {
-        match a {
-            Ok(()) => b.is_ok(),
-            Err(fault) => refuses(b, fault.number(), fault.place()),
-        }
-    }
-
-    // Whether two answers to a question are the same, refusals by number and place.
-    fn same(a: Result<(u32, u64), StoreFault>, b: Result<(u32, u64), StoreFault>) -> bool {
-        match (a, b) {
-            (Ok((s, v)), Ok((t, w))) => s == t && v == w,
-            (Err(f), Err(g)) => f.number() == g.number() && f.place() == g.place(),
-            _ => false,
-        }
+    // Checks that an answer refuses with this fault, and the number and place that it is reported by.
+    fn refuses(
+        rt: &impl Abort,
+        answer: Result<(), StoreFault>,
+        fault: StoreFault,
+        number: u8,
+        place: u64,
+    ) {
+        assert_eq!(rt; answer, Err(fault));
+        assert_eq!(rt; (fault.number(), fault.place()), (number, place));
     }
 
     // Whether two stores answer every question alike, of one key more than they have and up to a tick.
     fn alike<A: VersionStore, B: VersionStore>(a: &A, b: &B, last: u32) -> bool {
-        for key in 0..5 {
-            if !same(a.newest(key), b.newest(key)) {
-                return false;
-            }
-            for tick in 0..last {
-                if !same(a.as_of(key, tick), b.as_of(key, tick)) {
-                    return false;
-                }
-            }
-        }
-        a.kept() == b.kept() && a.free() == b.free()
+        (0..5).all(|key| {
+            a.newest(key) == b.newest(key)
+                && (0..last).all(|tick| a.as_of(key, tick) == b.as_of(key, tick))
+        }) && a.kept() == b.kept()
+            && a.free() == b.free()
     }
 
     // Adds to both stores until they are full, and on; some stamps are stale, and one key is not there.
     fn fill<A: VersionStore, B: VersionStore>(rt: &impl Abort, a: &mut A, b: &mut B, round: u8) {
-        let first = round as u32 * 10 + 1;
+        let first = u32::from(round) * 10 + 1;
         for step in 0..24u32 {
             let key = (step / 2 % 5) as u16;
             let stamp = first + step / 3;
-            let value = stamp as u64 * 100 + key as u64;
-            assert!(rt; same_end(a.add(key, stamp, value), b.add(key, stamp, value)));
+            let value = u64::from(stamp) * 100 + u64::from(key);
+            assert_eq!(rt; a.add(key, stamp, value), b.add(key, stamp, value));
             assert!(rt; alike(a, b, first + 10));
         }
-        assert!(rt; a.free() == 0);
+        assert_eq!(rt; a.free(), 0);
     }
 
     // Prunes both stores, and answers how many versions went.
@@ -83,20 +65,20 @@ mod tests {
         horizon: u32,
     ) -> u16 {
         let gone = a.prune(horizon);
-        assert!(rt; gone == b.prune(horizon));
+        assert_eq!(rt; gone, b.prune(horizon));
         assert!(rt; alike(a, b, 100));
         gone
     }
 
     fn rounds<A: VersionStore, B: VersionStore>(rt: &impl Abort, a: &mut A, b: &mut B) {
         fill(rt, a, b, 0);
-        assert!(rt; prune(rt, a, b, 1) == 0);
+        assert_eq!(rt; prune(rt, a, b, 1), 0);
         assert!(rt; prune(rt, a, b, 6) > 0);
         fill(rt, a, b, 1);
         assert!(rt; prune(rt, a, b, 14) > 0);
         fill(rt, a, b, 2);
         assert!(rt; prune(rt, a, b, u32::MAX) > 0);
-        assert!(rt; a.kept() == 4);
+        assert_eq!(rt; a.kept(), 4);
         fill(rt, a, b, 3);
         assert!(rt; prune(rt, a, b, 35) > 0);
     }
@@ -113,19 +95,31 @@ mod tests {
 
     #[test]
     fn refuses_a_set_up(rt: HostRuntime) {
-        assert!(rt; ChainStore::check(4, 4, 10).is_ok());
-        assert!(rt; refuses(ChainStore::check(0, 0, 0), 1, 0));
-        assert!(rt; refuses(ChainStore::check(1025, 1025, 10), 1, 1025));
-        assert!(rt; refuses(ChainStore::check(4, 3, 0), 3, 0));
-        assert!(rt; refuses(ChainStore::check(4, 3, 2049), 3, 2049));
-        assert!(rt; refuses(ChainStore::check(4, 3, 10), 3, 3));
+        assert_eq!(rt; ChainStore::check(4, 4, 10), Ok(()));
+        refuses(&rt, ChainStore::check(0, 0, 0), StoreFault::Keys(0), 1, 0);
+        refuses(
+            &rt,
+            ChainStore::check(1025, 1025, 10),
+            StoreFault::Keys(1025),
+            1,
+            1025,
+        );
+        refuses(&rt, ChainStore::check(4, 3, 0), StoreFault::Cells(0), 3, 0);
+        refuses(
+            &rt,
+            ChainStore::check(4, 3, 2049),
+            StoreFault::Cells(2049),
+            3,
+            2049,
+        );
+        refuses(&rt, ChainStore::check(4, 3, 10), StoreFault::Heads(3), 3, 3);
         let mut heads = [Some(7); 3];
         let mut cells = [CELL; 10];
         let mut versions = [VERSION; 10];
         let mut chain = ChainStore::make(4, &mut heads, &mut cells);
         let mut log = LogStore::make(0, &mut versions);
-        assert!(rt; refuses(chain.add(0, 1, 1), 5, 0));
-        assert!(rt; prune(&rt, &mut chain, &mut log, 9) == 0);
-        assert!(rt; chain.free() == 0);
+        refuses(&rt, chain.add(0, 1, 1), StoreFault::KeyOutside(0), 5, 0);
+        assert_eq!(rt; prune(&rt, &mut chain, &mut log, 9), 0);
+        assert_eq!(rt; chain.free(), 0);
     }
 }

@@ -3,7 +3,8 @@ ghost use Rattle.stamped.specs.Gaps.{closed};
 
 use crate::Stamped;
 
-/// Says which records of a list are to go.
+/// Says which records of a list are to go. A trait and no closure: its ghost member makes what stays an
+/// equation, and nothing is asked of who gives the rule.
 pub trait Drops<T: Stamped> {
     ghost drops: { Self → T → List T → Bool };
 
@@ -19,6 +20,7 @@ pub fn close_gaps<T: Stamped + Copy, R: Drops<T>>(records: &mut [T], rule: &R) -
     ensures kept { take result records.new ≡ closed (R.Drops.drops rule.now) records.old }
 {
     let mut left = 0;
+    // By index, since it writes to the slice that it reads.
     for i in 0..records.len() {
         let record = records[i];
         if !rule.drops(&record, &records[i + 1..]) {

@@ -3,10 +3,14 @@
 
 pub mod closing;
 pub mod looking;
+pub mod packed;
 
 ghost use Rattle.std.specs.Prelude.{◌≡◌, ℕ};
 
-/// A record that carries a key and a stamp.
+/// The most keys that a version store or a validator has.
+pub const MAX_KEYS: u16 = 1024;
+
+/// A record that carries a key and a stamp. Each kind of record shows its own two fields.
 pub trait Stamped {
     ghost key_of: { Self → ℕ };
 

@@ -3,7 +3,8 @@ ghost use Rattle.stamped.specs.Look.{counts, Of, Last};
 
 use crate::Stamped;
 
-/// Which stamps a look-up takes: every one, or those below a tick.
+/// Which stamps a look-up takes: every one, or those below a tick. No `Option` of a tick, since the present is
+/// a moment too.
 #[derive(Clone, Copy)]
 pub enum Moment {
     Now,
@@ -26,10 +27,5 @@ impl Moment {
 pub fn find_last<T: Stamped>(records: &[T], key: u16, moment: Moment) -> Option<usize>
     ensures { Last (λ x. Of key moment (T.Stamped.key_of x) (T.Stamped.stamp_of x)) records.now result }
 {
-    for i in (0..records.len()).rev() {
-        if records[i].key() == key && moment.takes(records[i].stamp()) {
-            return Some(i);
-        }
-    }
-    None
+    records.iter().rposition(|record| record.key() == key && moment.takes(record.stamp()))
 }

@@ -1,9 +1,8 @@
 -- What shows the answers of a validator, however it keeps its stamps.
-use Rattle.std.proofs.Common.{◌≡◌, ℕ, zero, suc, ◌+◌, ◌<◌, ◌≤◌, true, false, cond, eqb, leb, Some, None, Ok, Err, Option, Result, sym, refl, ap, ◌∙◌, ⊎_elim, arith}
+use Rattle.std.proofs.Common.{◌≡◌, ℕ, zero, suc, ◌+◌, ◌<◌, ◌≤◌, true, false, cond, eqb, leb, Some, None, Ok, Option, sym, refl, ap, ◌∙◌, ⊎_elim, arith}
 use mathlib.Core.Path.{fun_ext}
-use Rattle.std.proofs.lemmas.Bool.{lt-ltb, le-ltb, lt-leb, leb-false, cases_Bool, cases_lt, cases_eq}
-use Rattle.validation.specs.declared.fault.ValidatorFault.{ValidatorFault}
-use Rattle.validation.specs.SetUp.{fresh, made}
+use Rattle.std.proofs.lemmas.Grind.{common_steps}
+use Rattle.std.proofs.lemmas.Bool.{lt-ltb, le-ltb, leb-false, cases_Bool, cases_lt}
 use Rattle.validation.specs.Meaning.{Meaning, stamp_at, first_clash, clash_answer, greatest_below, latest, with_stamps, granule_answer, note_answer, noted}
 
 -- the lowest key from k on and below e whose granule has a stamp above the start, with that stamp
@@ -13,17 +12,15 @@ Lowest m start k e (Some p) = (k ≤ p.0) × (p.0 < e) × (p.1 ≡ stamp_at m p.
 
 module _ (m : Meaning) (start : ℕ) where
   here : (k e : ℕ) (o : Option (ℕ × ℕ)) → k < e → start < stamp_at m k → Lowest m start k e o → o ≡ Some (k, stamp_at m k)
-  here k e None in' hit low = let no = low k (omega arith) in' in absurd (omega arith)
+  here k e None in' hit low = grind (arith, common_steps, low k)
   here k e (Some p) in' hit low =
-      let at : k ≡ p.0 = ⊎_elim (λ (h : k < p.0). let no = low.4 k (omega arith) h in absurd (omega arith)) (λ (h : p.0 ≤ k). omega (arith, low.0)) (cases_lt k p.0) in
+      let at : k ≡ p.0 = grind (arith, common_steps, low.0, low.3, low.4 k) in
       let stamp : p.1 ≡ stamp_at m k = low.2 ∙ ap (stamp_at m) (sym at) in
       ap (λ (j : ℕ). Some (j, p.1)) (sym at) ∙ ap (λ (s : ℕ). Some (k, s)) stamp
 
   beyond : (k e : ℕ) (o : Option (ℕ × ℕ)) → stamp_at m k ≤ start → Lowest m start k e o → Lowest m start (k + 1) e o
   beyond k e None miss low = λ j from. low j (omega arith)
-  beyond k e (Some p) miss low =
-      let off : k ≡ p.0 → ⊥ = λ at. let s : stamp_at m k ≡ stamp_at m p.0 = ap (stamp_at m) at in omega (arith, low.2, low.3) in
-      (⊎_elim (λ (at : k ≡ p.0). absurd (off at)) (λ (at : k ≡ p.0 → ⊥). omega (arith, low.0, at)) (cases_eq k p.0), low.1, low.2, low.3, λ j from. low.4 j (omega arith))
+  beyond k e (Some p) miss low = (grind (arith, common_steps, low.0, low.2, low.3), low.1, low.2, low.3, λ j from. low.4 j (omega arith))
 
   pub clash_is : (n k : ℕ) (o : Option (ℕ × ℕ)) → Lowest m start k (k + n) o → o ≡ first_clash m start k n
   clash_is zero k None low = refl
@@ -55,11 +52,7 @@ greatest_least (suc n) f b all =
 
 greatest_most : (n : ℕ) (f : ℕ → ℕ) (k : ℕ) → k < n → f k ≤ greatest_below n f
 greatest_most zero f k in' = absurd (omega arith)
-greatest_most (suc n) f k in' =
-    ⊎_elim
-    (λ (h : k < n). let rest = greatest_most n f k h in omega arith)
-    (λ (h : n ≤ k). let e : k ≡ n = omega arith in let s = ap f e in omega arith)
-    (cases_lt k n)
+greatest_most (suc n) f k in' = grind (arith, common_steps, greatest_most n f k)
 
 pub latest_at : (m : Meaning) (k : ℕ) → k < m.keys → stamp_at m k ≤ latest m
 latest_at m k in' = greatest_most m.keys (stamp_at m) k in'
@@ -73,10 +66,7 @@ same_stamps m f each = ap (with_stamps m) (fun_ext each)
 
 module _ (m : Meaning) (k s : ℕ) (known : k < m.keys) (fresh : stamp_at m k ≤ s) where
   pub note_fine : note_answer m k s ≡ Ok tt
-  note_fine =
-      let a = lt-leb m.keys k known in
-      let b = le-ltb s (stamp_at m k) fresh in
-      rw (a, b)
+  note_fine = grind (arith, common_steps)
 
   pub noted_fine : (n : Meaning) → n ≡ with_stamps m (λ g. cond (eqb (m.granule k) g) s (m.stamp g)) → n ≡ noted m k s
   noted_fine n is = rw note_fine is
@@ -87,9 +77,3 @@ granule_known m k g is =
     (λ (out : leb m.keys k ≡ true). let no = rw out at is in absurd (let z : ◌≡◌ {A = ℕ} 0 1 = cc in omega arith))
     (λ (in' : leb m.keys k ≡ false). let yes = rw in' at is in (leb-false m.keys k in', cc))
     (cases_Bool (leb m.keys k))
-
-pub made_fine : (answer : Result (Unit {0}) ValidatorFault) (keys : ℕ) (granule : ℕ → ℕ) (u : Unit {0}) → answer ≡ Ok u → made answer keys granule ≡ fresh keys granule
-made_fine answer keys granule u is = rw is
-
-pub made_refused : (answer : Result (Unit {0}) ValidatorFault) (keys : ℕ) (granule : ℕ → ℕ) (f : ValidatorFault) → answer ≡ Err f → made answer keys granule ≡ fresh 0 (λ k. k)
-made_refused answer keys granule f is = rw is

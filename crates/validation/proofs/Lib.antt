@@ -1,4 +1,3 @@
 mod Answering
-mod Fronts
 mod Recents
 mod Tables

@@ -1,8 +1,10 @@
 -- A list of entries in which a key stands at most once.
-use Rattle.std.proofs.Common.{◌≡◌, ℕ, zero, suc, ◌+◌, ◌-◌, ◌<◌, ◌≤◌, Bool, true, false, cond, eqb, ltb, List, [], ◌∷◌, ◌++◌, length, get_or, take, set, Some, None, Option, sym, refl, ap, ◌∙◌, ⊎_elim, arith}
-use Rattle.std.proofs.lemmas.List.{length_push, length-take, length-take-le, get_or-take, take_more_set}
+use Rattle.std.proofs.Common.{◌≡◌, ℕ, zero, suc, ◌+◌, ◌<◌, ◌≤◌, Bool, true, false, cond, eqb, ltb, List, [], ◌∷◌, ◌++◌, length, get_or, Some, None, Option, sym, refl, ap, ◌∙◌, ⊎_elim, arith, Ok, Err, Result, drop, rules}
+use Rattle.std.proofs.lemmas.List.{length_push, length-append, length-drop}
 use Rattle.std.proofs.lemmas.Bool.{lt-ltb, le-ltb, ltb-true, eq-eqb, ne_eqb, eqb-true, cases_lt, cases_eq, cases_Bool}
 use Rattle.stamped.specs.Gaps.{closed}
+use Rattle.std.specs.Result.{IsOk, OnOk}
+use Rattle.stamped.specs.Packing.{Packing, room as places_of}
 use Rattle.stamped.specs.Look.{Of, Last}
 use Rattle.stamped.specs.declared.looking.Moment.TheVariants.{Now}
 use Rattle.validation.specs.declared.entry.Entry.{Entry}
@@ -260,32 +262,29 @@ looked_all keys es once start first full end (Some p) i l all =
     let stamp = l.held.3 ∙ ap (stamp_in es) (sym same) in
     (omega (arith, l.held.1), omega (arith, l.held.2), stamp, l.held.4, λ k from upto. below keys es once start first full end (Some p) i l all k from (omega arith))
 
--- an entry put behind what a closing has left
-module _ (keys keys' n u : ℕ) (xs zs : List Entry) (e : Entry) (same : keys' ≡ keys) (once : Once keys (take n xs)) (known : e.key < keys) (kept : take u zs ≡ closed (of_key e.key) (take n xs)) (fits : u ≤ length zs) (places : length zs ≡ keys') where
-  pub noting_room : u < length zs
-  noting_room = omega (arith, length-take-le u zs fits, ap length kept, room_noted keys (take n xs) once e known)
+-- an entry put behind what a closing has left: there is a place for it
+module _ (keys : ℕ) (es : List Entry) (left new : Packing Entry) (e : Entry) (once : Once keys es) (known : e.key < keys) (kept : left.records ≡ closed (of_key e.key) es) (places : places_of left ≡ keys) where
+  pushed : (r : Result (Unit {0}) Entry) → (0 < length left.rest → IsOk r) → OnOk r (new ≡ record { records = left.records ++ e ∷ []; rest = drop 1 left.rest }) → (places_of new ≡ keys) × (new.records ≡ closed (of_key e.key) es ++ e ∷ [])
+  pushed (Err f) fits new-is = absurd (let none = fits (omega (arith, places, ap length kept, room_noted keys es once e known)) in search rules)
+  pushed (Ok u) fits new-is =
+      let some : 0 < length left.rest = omega (arith, places, ap length kept, room_noted keys es once e known) in
+      let long : length (left.records ++ e ∷ []) + length (drop 1 left.rest) ≡ keys = simp (length-append, length-drop) (omega (arith, some, places)) in
+      (rw new-is long, ap (λ (p : Packing Entry). p.records) new-is ∙ ap (λ (xs : List Entry). xs ++ e ∷ []) kept)
 
-  now_held : take (u + 1) (set zs u e) ≡ closed (of_key e.key) (take n xs) ++ e ∷ []
-  now_held = take_more_set zs u e noting_room ∙ ap (λ (es : List Entry). es ++ e ∷ []) kept
+  module _ (r : Result (Unit {0}) Entry) (fits : 0 < length left.rest → IsOk r) (new-is : OnOk r (new ≡ record { records = left.records ++ e ∷ []; rest = drop 1 left.rest })) where
+    pub noting_places : places_of new ≡ keys
+    noting_places = (pushed r fits new-is).0
 
-  pub noting_once : Once keys' (take (u + 1) (set zs u e))
-  noting_once = rw (same, now_held) (once_noted keys (take n xs) once e known)
+    pub noting_once : Once keys new.records
+    noting_once = rw (pushed r fits new-is).1 (once_noted keys es once e known)
 
-  pub noting_meaning : stamp_in (take n xs) e.key ≤ e.stamp → listed keys' (take (u + 1) (set zs u e)) ≡ noted (listed keys (take n xs)) e.key e.stamp
-  noting_meaning fresh = rw (same, now_held) (list_noted keys (take n xs) once e known fresh)
+    pub noting_meaning : stamp_in es e.key ≤ e.stamp → listed keys new.records ≡ noted (listed keys es) e.key e.stamp
+    noting_meaning fresh = rw (pushed r fits new-is).1 (list_noted keys es once e known fresh)
 
--- what a look-up among the first n entries finds
-module _ (keys n : ℕ) (xs : List Entry) (once : Once keys (take n xs)) (key : ℕ) where
-  whole : take (n - 0) xs ≡ take n xs
-  whole = let z : n - 0 ≡ n = omega arith in ap (λ (m : ℕ). take m xs) z
+-- what a look-up among the entries finds
+module _ (keys : ℕ) (es : List Entry) (once : Once keys es) (key : ℕ) where
+  pub found_some : (i : ℕ) → Last (λ e. Of key Now e.key e.stamp) es (Some i) → (get_or es i blank).stamp ≡ stamp_in es key
+  found_some i last = sym (stamp_at_place es i key blank last.0 (last.1 blank).0 (one_at_most keys es once key))
 
-  pub found_some : (i : ℕ) → Last (λ e. Of key Now e.key e.stamp) (take (n - 0) xs) (Some i) → (get_or xs i blank).stamp ≡ stamp_in (take n xs) key
-  found_some i found =
-      let last : Last (λ e. Of key Now e.key e.stamp) (take n xs) (Some i) = rw whole at found in
-      let in' : i < n = omega (arith, last.0, length-take n xs) in
-      sym (ap (λ (e : Entry). e.stamp) (get_or-take n xs i blank in')) ∙ sym (stamp_at_place (take n xs) i key blank last.0 (last.1 blank).0 (one_at_most keys (take n xs) once key))
-
-  pub found_none : Last (λ e. Of key Now e.key e.stamp) (take (n - 0) xs) None → 0 ≡ stamp_in (take n xs) key
-  found_none found =
-      let last : Last (λ e. Of key Now e.key e.stamp) (take n xs) None = rw whole at found in
-      stamp_by (λ s. 0 ≡ s) (take n xs) key refl (λ i in' is. absurd (last i blank (omega arith) in' (is, refl)))
+  pub found_none : Last (λ e. Of key Now e.key e.stamp) es None → 0 ≡ stamp_in es key
+  found_none last = stamp_by (λ s. 0 ≡ s) es key refl (λ i in' is. absurd (last i blank (omega arith) in' (is, refl)))

@@ -7,6 +7,11 @@ pub struct Entry {
     pub stamp: u32,
 }
 
+impl Entry {
+    /// An entry of nothing, to fill memory with before it is lent.
+    pub const CLEARED: Entry = Entry { key: 0, stamp: 0 };
+}
+
 impl Stamped for Entry {
     ghost key_of = { λ e. e.key };
 

@@ -2,7 +2,7 @@ ghost use Rattle.std.specs.Prelude.{◌≡◌};
 ghost use Rattle.validation.specs.Faults.{number_of, place_of};
 
 /// Why a validator refuses.
-#[derive(Clone, Copy)]
+#[derive(Clone, Copy, Debug, PartialEq)]
 pub enum ValidatorFault {
     /// The number of keys is outside its limits.
     Keys(u16),
@@ -16,6 +16,7 @@ pub enum ValidatorFault {
     StaleStamp(u16),
 }
 
+// Methods of its own and no trait with the faults of version stores: neither crate knows the other, and no code takes any fault.
 impl ValidatorFault {
     /// Validators are the second layer.
     pub fn layer(&self) -> u8
@@ -40,10 +41,12 @@ impl ValidatorFault {
         ensures { result ≡ place_of self.now }
     {
         match *self {
-            ValidatorFault::Keys(keys) => keys as u64,
+            ValidatorFault::Keys(keys) => u64::from(keys),
+            // `u64` has no `From<usize>`.
+            // Rust has no `From<usize> for u64`, and a length cannot fail to fit.
             ValidatorFault::Places(places) => places as u64,
-            ValidatorFault::Grain(grain) => grain as u64,
-            ValidatorFault::KeyOutside(key) | ValidatorFault::StaleStamp(key) => key as u64,
+            ValidatorFault::Grain(grain) => u64::from(grain),
+            ValidatorFault::KeyOutside(key) | ValidatorFault::StaleStamp(key) => u64::from(key),
         }
     }
 }

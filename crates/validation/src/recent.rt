@@ -1,14 +1,15 @@
-ghost use Rattle.std.specs.Prelude.{◌≡◌, ◌≤◌, length, take, replicate, ◌==◌, nat_lt};
-ghost use Rattle.stamped.specs.Gaps.{closed};
+ghost use Rattle.std.proofs.Common.{rules};
+ghost use Rattle.std.specs.Prelude.{◌≡◌, ◌≤◌, [], length, replicate, ◌==◌, nat_lt};
+ghost use Rattle.stamped.specs.Packing.{room};
 ghost use Rattle.validation.specs.Recent.{listed, stamp_in, Once, blank};
 ghost use Rattle.validation.specs.SetUp.{list_answer, made};
 
 pub use crate::entry::Entry;
 use crate::fault::ValidatorFault;
 use crate::validator::{MAX_KEYS, Validator};
-use stamped::closing::{Drops, close_gaps};
+use stamped::closing::Drops;
 use stamped::looking::{Moment, find_last};
-use std::mem;
+use stamped::packed::Packed;
 
 /// Drops the entry of a key.
 #[derive(Drop)]
@@ -38,23 +39,14 @@ impl Drops<Entry> for Older {
     }
 }
 
-/// Makes every entry blank.
-fn clear(entries: &mut [Entry])
-    ensures { entries.new ≡ replicate (length entries.old) blank }
-{
-    entries.fill(Entry { key: 0, stamp: 0 });
-}
-
 /// The keys that were noted and not trimmed since, in the order of noting, over lent memory.
 #[derive(Drop)]
 pub struct RecentList<'a> {
     keys: u16,
-    entries: &'a mut [Entry],
-    used: usize,
+    entries: Packed<'a, Entry>,
     ghost few: { keys ≤ 1024 },
-    ghost places: { length entries.now ≡ keys },
-    ghost fits: { used ≤ length entries.now },
-    ghost once: { Once keys (take used entries.now) },
+    ghost places: { room entries ≡ keys },
+    ghost once: { Once keys entries.records },
 }
 
 impl<'a> RecentList<'a> {
@@ -65,7 +57,7 @@ impl<'a> RecentList<'a> {
         if keys == 0 || keys > MAX_KEYS {
             return Err(ValidatorFault::Keys(keys));
         }
-        if places != keys as usize {
+        if places != usize::from(keys) {
             return Err(ValidatorFault::Places(places));
         }
         Ok(())
@@ -73,50 +65,40 @@ impl<'a> RecentList<'a> {
 
     /// An empty list over cleared entries; one without keys where the check refuses.
     pub fn make(keys: u16, entries: &'a mut [Entry]) -> RecentList<'a>
-        ensures fresh { listed result.keys (take result.used result.entries.now) ≡ made (list_answer keys (length entries.old)) keys (λ k. k) }
-        ensures clear { result.entries.now ≡ replicate (length result.entries.now) blank }
+        ensures fresh { listed result.keys result.entries.records ≡ made (list_answer keys (length entries.old)) keys (λ k. k) }
+        ensures none { result.entries.records ≡ [] }
+        ensures clear { result.entries.rest ≡ replicate (length result.entries.rest) blank }
     {
-        clear(entries);
-        match Self::check(keys, entries.len()) {
-            Ok(()) => RecentList {
-                keys,
-                entries,
-                used: 0,
-            },
-            Err(_) => RecentList {
+        entries.fill(Entry::CLEARED);
+        if Self::check(keys, entries.len()).is_err() {
+            return RecentList {
                 keys: 0,
-                entries: &mut [],
-                used: 0,
-            },
+                entries: Packed::new(&mut []),
+            };
+        }
+        RecentList {
+            keys,
+            entries: Packed::new(entries),
         }
     }
 
     /// The stamp of a key's entry, or 0 where it has none.
     fn stamp_of(&self, key: u16) -> u32
-        ensures { result ≡ stamp_in (take self.now.used self.now.entries.now) key }
+        ensures { result ≡ stamp_in self.now.entries.records key }
     {
-        match find_last(&self.entries[0..self.used], key, Moment::Now) {
-            Some(i) => self.entries[i].stamp,
-            None => 0,
-        }
-    }
-
-    /// Lets go of the entries that the rule drops; the others stay in their order.
-    fn drop_entries<R: Drops<Entry>>(&mut self, rule: &R)
-        ensures keys { self.new.keys ≡ self.old.keys }
-        ensures kept { take self.new.used self.new.entries.now ≡ closed (R.Drops.drops rule.now) (take self.old.used self.old.entries.now) }
-    {
-        let used = self.used;
-        let entries = mem::replace(&mut self.entries, &mut []);
-        self.used = close_gaps(&mut entries[0..used], rule);
-        self.entries = entries;
+        let entries = self.entries.as_slice();
+        let Some(i) = find_last(entries, key, Moment::Now) else {
+            // A key that has no entry was never noted, or trimmed since.
+            return 0;
+        };
+        entries[i].stamp
     }
 }
 
 impl<'a> Validator for RecentList<'a> {
-    ghost meaning = { λ l. listed l.keys (take l.used l.entries.now) };
+    ghost meaning = { λ l. listed l.keys l.entries.records };
 
-    fn attest(&self) {}
+    ghost lawful = { Prim.search rules };
 
     fn keys(&self) -> u16 {
         self.keys
@@ -130,15 +112,13 @@ impl<'a> Validator for RecentList<'a> {
     }
 
     fn note(&mut self, key: u16, stamp: u32) -> Result<(), ValidatorFault> {
-        if key >= self.keys {
-            return Err(ValidatorFault::KeyOutside(key));
-        }
+        self.granule(key)?;
         if stamp < self.stamp_of(key) {
             return Err(ValidatorFault::StaleStamp(key));
         }
-        self.drop_entries(&OfKey { key });
-        self.entries[self.used] = Entry { key, stamp };
-        self.used += 1;
+        self.entries.close_gaps(&OfKey { key });
+        // Each other key has one entry at most, so there is a place.
+        let _ = self.entries.push(Entry { key, stamp });
         Ok(())
     }
 
@@ -148,14 +128,14 @@ impl<'a> Validator for RecentList<'a> {
         count: u16,
         start: u32,
     ) -> Result<Option<(u16, u32)>, ValidatorFault> {
-        if first as u32 + count as u32 > self.keys as u32 {
+        if u32::from(first) + u32::from(count) > u32::from(self.keys) {
             return Err(ValidatorFault::KeyOutside(first));
         }
         let mut lowest = None;
         // Once a key is hit, only those below it matter.
         let mut end = first + count;
-        for i in 0..self.used {
-            let entry = self.entries[i];
+        // One plain loop over the entries, as the project asks of this search.
+        for entry in self.entries.as_slice() {
             if entry.key >= first && entry.key < end && entry.stamp > start {
                 lowest = Some((entry.key, entry.stamp));
                 end = entry.key;
@@ -165,17 +145,11 @@ impl<'a> Validator for RecentList<'a> {
     }
 
     fn trim(&mut self, tick: u32) {
-        self.drop_entries(&Older { tick });
+        self.entries.close_gaps(&Older { tick });
     }
 
     fn latest(&self) -> u32 {
-        let mut latest = 0;
-        for i in 0..self.used {
-            let stamp = self.entries[i].stamp;
-            if stamp > latest {
-                latest = stamp;
-            }
-        }
-        latest
+        let entries = self.entries.as_slice();
+        entries.iter().map(|entry| entry.stamp).max().unwrap_or(0)
     }
 }

@@ -1,16 +1,10 @@
+ghost use Rattle.std.proofs.Common.{rules};
 ghost use Rattle.std.specs.Prelude.{◌≡◌, ◌/◌, ◌<◌, ◌≤◌, length, replicate};
 ghost use Rattle.validation.specs.SetUp.{granules, table_answer, made};
 ghost use Rattle.validation.specs.Table.{tabled};
 
 use crate::fault::ValidatorFault;
 use crate::validator::{MAX_KEYS, Validator};
-
-/// Sets every stamp to 0.
-fn clear(stamps: &mut [u32])
-    ensures { stamps.new ≡ replicate (length stamps.old) 0 }
-{
-    stamps.fill(0);
-}
 
 /// One stamp for each granule over lent memory; a granule is `grain` keys that lie next to each other.
 #[derive(Drop)]
@@ -34,7 +28,7 @@ impl<'a> StampTable<'a> {
         if grain == 0 || grain > keys {
             return Err(ValidatorFault::Grain(grain));
         }
-        if places != ((keys + grain - 1) / grain) as usize {
+        if places != usize::from(keys.div_ceil(grain)) {
             return Err(ValidatorFault::Places(places));
         }
         Ok(())
@@ -45,18 +39,18 @@ impl<'a> StampTable<'a> {
         ensures fresh { tabled result.keys result.grain result.stamps.now ≡ made (table_answer keys grain (length stamps.old)) keys (λ k. k / grain) }
         ensures clear { result.stamps.now ≡ replicate (length result.stamps.now) 0 }
     {
-        clear(stamps);
-        match Self::check(keys, grain, stamps.len()) {
-            Ok(()) => StampTable {
-                keys,
-                grain,
-                stamps,
-            },
-            Err(_) => StampTable {
+        stamps.fill(0);
+        if Self::check(keys, grain, stamps.len()).is_err() {
+            return StampTable {
                 keys: 0,
                 grain: 1,
                 stamps: &mut [],
-            },
+            };
+        }
+        StampTable {
+            keys,
+            grain,
+            stamps,
         }
     }
 }
@@ -64,7 +58,7 @@ impl<'a> StampTable<'a> {
 impl<'a> Validator for StampTable<'a> {
     ghost meaning = { λ t. tabled t.keys t.grain t.stamps.now };
 
-    fn attest(&self) {}
+    ghost lawful = { Prim.search rules };
 
     fn keys(&self) -> u16 {
         self.keys
@@ -78,7 +72,7 @@ impl<'a> Validator for StampTable<'a> {
     }
 
     fn note(&mut self, key: u16, stamp: u32) -> Result<(), ValidatorFault> {
-        let granule = self.granule(key)? as usize;
+        let granule = usize::from(self.granule(key)?);
         if stamp < self.stamps[granule] {
             return Err(ValidatorFault::StaleStamp(key));
         }
@@ -92,11 +86,12 @@ impl<'a> Validator for StampTable<'a> {
         count: u16,
         start: u32,
     ) -> Result<Option<(u16, u32)>, ValidatorFault> {
-        if first as u32 + count as u32 > self.keys as u32 {
+        if u32::from(first) + u32::from(count) > u32::from(self.keys) {
             return Err(ValidatorFault::KeyOutside(first));
         }
+        // One plain loop over the keys, as the project asks of this search.
         for key in first..first + count {
-            let stamp = self.stamps[(key / self.grain) as usize];
+            let stamp = self.stamps[usize::from(key / self.grain)];
             if stamp > start {
                 return Ok(Some((key, stamp)));
             }
@@ -105,20 +100,14 @@ impl<'a> Validator for StampTable<'a> {
     }
 
     fn trim(&mut self, tick: u32) {
-        for i in 0..self.stamps.len() {
-            if self.stamps[i] < tick {
-                self.stamps[i] = 0;
+        for stamp in self.stamps.iter_mut() {
+            if *stamp < tick {
+                *stamp = 0;
             }
         }
     }
 
     fn latest(&self) -> u32 {
-        let mut latest = 0;
-        for i in 0..self.stamps.len() {
-            if self.stamps[i] > latest {
-                latest = self.stamps[i];
-            }
-        }
-        latest
+        self.stamps.iter().copied().max().unwrap_or(0)
     }
 }

@@ -6,10 +6,7 @@ use std::process::Abort;
 
 /// An answer with the number and the place of its fault.
 fn told<T: Drop>(answer: Result<T, ValidatorFault>) -> Result<T, (u8, u64)> {
-    match answer {
-        Ok(value) => Ok(value),
-        Err(fault) => Err((fault.number(), fault.place())),
-    }
+    answer.map_err(|fault| (fault.number(), fault.place()))
 }
 
 fn answered(rt: &impl Abort, answer: Result<(), ValidatorFault>, expected: Result<(), (u8, u64)>) {

@@ -2,17 +2,11 @@ ghost use Rattle.std.specs.Prelude.{◌≡◌};
 ghost use Rattle.validation.specs.Meaning.{Meaning, Lawful, granule_answer, clash_answer, note_answer, noted, trimmed, latest};
 
 use crate::fault::ValidatorFault;
-
-/// The most keys that a validator has.
-pub const MAX_KEYS: u16 = 1024;
+pub use stamped::MAX_KEYS;
 
 /// A number of keys, a granule for each key, and for each granule the stamp that was noted last.
 pub trait Validator {
     ghost meaning: { Self → Meaning };
-
-    /// Does nothing; a caller learns from it what holds of every validator.
-    fn attest(&self)
-        ensures { Lawful (meaning self.now) };
 
     fn keys(&self) -> u16
         ensures { result ≡ (meaning self.now).keys };
@@ -27,6 +21,7 @@ pub trait Validator {
         ensures after { meaning self.new ≡ noted (meaning self.old) key stamp };
 
     /// The lowest of the keys first, first + 1, .. whose granule has a stamp above the start, with that stamp.
+    // Two numbers, since the struct of a range is the ledger's, and a validator stands on no ledger.
     fn clash(
         &self,
         first: u16,
@@ -42,4 +37,7 @@ pub trait Validator {
     /// The greatest stamp, or 0.
     fn latest(&self) -> u32
         ensures { result ≡ latest (meaning self.now) };
+
+    /// What holds of every validator.
+    ghost lawful: { (v : Self) → Lawful (meaning v) };
 }

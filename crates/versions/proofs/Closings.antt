@@ -1,37 +1,16 @@
 -- What a closing of gaps leaves of a log means what a prune leaves of each key.
-use Rattle.std.proofs.Common.{◌≡◌, ℕ, zero, suc, ◌-◌, ◌<◌, ◌≤◌, Bool, true, false, cond, eqb, ltb, List, [], ◌∷◌, ◌++◌, length, take, fold, sym, refl, ap, ◌∙◌, ⊎_elim, append_assoc, append-nil, add-one, arith}
+use Rattle.std.proofs.Common.{◌≡◌, ℕ, ◌-◌, ◌<◌, ◌≤◌, Bool, true, false, cond, ltb, List, [], ◌∷◌, ◌++◌, length, sym, refl, ap, ◌∙◌, ⊎_elim, append-nil, arith}
 use mathlib.Core.Path.{fun_ext}
-use borrow.Rule.Slice.PartMut.{post_of}
-use Rattle.std.specs.List.{AllByRecursion, AllWithin}
+use Rattle.std.specs.List.{AllByRecursion}
 use Rattle.std.proofs.lemmas.Bool.{eq-eqb, ne_eqb, cases_Bool, cases_eq}
-use Rattle.std.proofs.ByRecursion.{All-more, All-get_or}
-use Rattle.std.proofs.lemmas.List.{length-take-le, get_or-take, take-append-le, length-append, length-drop}
+use Rattle.std.proofs.ByRecursion.{every_from_all}
 use Rattle.stamped.specs.Gaps.{closed}
 use Rattle.versions.specs.declared.store.Version.{Version}
 use Rattle.versions.specs.Meaning.{any, survivors, pruned, kept, pruned_count}
-use Rattle.versions.specs.Log.{noted, versions_of, logged, Known, Falling, superseded, blank}
+use Rattle.versions.specs.Log.{versions_of, logged, Known, Falling, superseded}
 use Rattle.versions.proofs.Lists.{any_push}
 use Rattle.versions.proofs.Meanings.{cut, survivors_cut, falls_cut, dead_and_kept}
-use Rattle.versions.proofs.Logs.{kept_all}
-
--- the first record of a log is the oldest version of its key
-
-noted_on : (k : ℕ) (vs : List (ℕ × ℕ)) (x : Version) → noted k vs x ≡ noted k [] x ++ vs
-noted_on k vs x = ⊎_elim (λ e. rw e refl) (λ e. rw e refl) (cases_Bool (eqb x.key k))
-
-versions_on : (k : ℕ) (xs : List Version) (vs : List (ℕ × ℕ)) → fold (noted k) vs xs ≡ versions_of xs k ++ vs
-versions_on k [] vs = refl
-versions_on k (x ∷ xs) vs =
-    versions_on k xs (noted k vs x)
-    ∙ ap (λ (r : List (ℕ × ℕ)). versions_of xs k ++ r) (noted_on k vs x)
-    ∙ sym (append_assoc (versions_of xs k) (noted k [] x) vs)
-    ∙ ap (λ (r : List (ℕ × ℕ)). r ++ vs) (sym (versions_on k xs (noted k [] x)))
-
-oldest_same : (k : ℕ) (x : Version) (xs : List Version) → x.key ≡ k → versions_of (x ∷ xs) k ≡ versions_of xs k ++ (x.stamp, x.value) ∷ []
-oldest_same k x xs q = let e = eq-eqb x.key k q in versions_on k xs (noted k [] x) ∙ rw e refl
-
-oldest_other : (k : ℕ) (x : Version) (xs : List Version) → (x.key ≡ k → ⊥) → versions_of (x ∷ xs) k ≡ versions_of xs k
-oldest_other k x xs ne = let e = ne_eqb x.key k ne in versions_on k xs (noted k [] x) ∙ rw e (append-nil (versions_of xs k))
+use Rattle.versions.proofs.Logs.{kept_all, each_known, oldest_same, oldest_other}
 
 abbrev early : ℕ → ℕ × ℕ → Bool
 early h v = ltb v.0 h
@@ -91,69 +70,33 @@ all_closed P drops (x ∷ xs) a =
     (λ (t : drops x xs ≡ false). rw t (a.0, all_closed P drops xs a.1))
     (cases_Bool (drops x xs))
 
-all_from_front : {X : Type 0} (P : X → Type 0) (xs : List X) (n : ℕ) (d : X) → n ≤ length xs → AllWithin P xs 0 n → AllByRecursion P (take n xs)
-all_from_front P xs zero d h e = tt
-all_from_front P xs (suc n) d h e =
-    let more = All-more P xs n d (omega arith) (all_from_front P xs n d (omega arith) (λ k x low high. e k x low (omega arith))) (e n d (omega arith) (omega arith)) in
-    rw add-one at more
+pub closed_few : (h : ℕ) (log : List Version) → length (closed (superseded h) log) ≤ length log
+closed_few h [] = omega arith
+closed_few h (x ∷ xs) =
+    let rest = closed_few h xs in
+    ⊎_elim
+    (λ (t : superseded h x xs ≡ true). rw t (omega (arith, rest)))
+    (λ (t : superseded h x xs ≡ false). rw t (omega (arith, rest)))
+    (cases_Bool (superseded h x xs))
 
-front_from_all : {X : Type 0} (P : X → Type 0) (xs : List X) (n : ℕ) → n ≤ length xs → AllByRecursion P (take n xs) → AllWithin P xs 0 n
-front_from_all P xs n h a k d low high =
-    let l = length-take-le n xs h in
-    let g = All-get_or P (take n xs) k d (omega arith) a in
-    rw get_or-take at g
+module _ (h : ℕ) (log : List Version) (falling : Falling log) where
+  pub closed_falling : Falling (closed (superseded h) log)
+  closed_falling k = rw (versions_closed h log k) (falls_cut h (versions_of log k) (falling k))
 
--- closing the gaps of the first n of xs has left the first k of part, and the rest as it was
-pub record Left (h n k : ℕ) (xs part rest : List Version) : Type 0 where
-  pub within : n ≤ length xs
-  pub few : k ≤ n
-  pub part_long : length part ≡ n
-  pub rest_long : length rest ≡ length xs - n
-  pub front : take k part ≡ closed (superseded h) (take n xs)
+  pub closed_pruned : (keys cells : ℕ) → logged keys cells (closed (superseded h) log) ≡ pruned (logged keys cells log) h
+  closed_pruned keys cells =
+      let p : versions_of (closed (superseded h) log) ≡ (λ k. survivors h (versions_of log k)) = fun_ext (λ k. versions_closed h log k ∙ sym (survivors_cut h (versions_of log k) (falling k))) in
+      ap (λ (f : ℕ → List (ℕ × ℕ)). record { keys = keys; cells = cells; versions = f }) p
 
--- as the checker sees a closing over `&mut cells[0..n]`
-pub left_from : (h n k : ℕ) (xs ys part : List Version) → ys ≡ xs → n ≤ length xs → length part ≡ length (take (n - 0) ys) → k ≤ length (take (n - 0) ys) → take k part ≡ closed (superseded h) (take (n - 0) ys) → Left h n k xs part (post_of 0 (n - 0) ys)
-left_from h n k xs ys part same within long few front =
-    let z : n - 0 ≡ n = omega arith in
-    let e : take (n - 0) ys ≡ take n xs = rw (z, same) in
-    let l = ap length e ∙ length-take-le n xs within in
-    record {
-      within = within;
-      few = omega (arith, l);
-      part_long = omega (arith, l);
-      rest_long = simp length-drop (omega (arith, ap length same));
-      front = front ∙ ap (closed (superseded h)) e;
-    }
+  module _ (keys : ℕ) (known : Known keys log) where
+    pub closed_known : Known keys (closed (superseded h) log)
+    closed_known k d within = every_from_all (λ v. v.key < keys) (closed (superseded h) log) (all_closed (λ v. v.key < keys) (superseded h) log (each_known keys log known)) k d (omega arith) within
 
-module _ {h n k : ℕ} {xs part rest : List Version} (l : Left h n k xs part rest) where
-  front_left : take k (part ++ rest) ≡ closed (superseded h) (take n xs)
-  front_left = take-append-le k part rest (omega arith) ∙ l.front
-
-  pub closed_long : length (part ++ rest) ≡ length xs
-  closed_long = simp length-append (omega arith)
-
-  pub closed_fits : k ≤ length (part ++ rest)
-  closed_fits = let long = closed_long in omega (arith, long)
-
-  pub closed_known : (keys : ℕ) → Known keys xs n → Known keys (part ++ rest) k
-  closed_known keys known =
-      let a = all_from_front (λ v. v.key < keys) xs n blank l.within known in
-      let b = all_closed (λ v. v.key < keys) (superseded h) (take n xs) a in
-      front_from_all (λ v. v.key < keys) (part ++ rest) k closed_fits (rw front_left b)
-
-  pub closed_falling : Falling (take n xs) → Falling (take k (part ++ rest))
-  closed_falling falling j = rw (front_left, versions_closed h (take n xs) j) (falls_cut h (versions_of (take n xs) j) (falling j))
-
-  pub closed_pruned : (keys : ℕ) → Falling (take n xs) → logged keys (length (part ++ rest)) (take k (part ++ rest)) ≡ pruned (logged keys (length xs) (take n xs)) h
-  closed_pruned keys falling =
-      let p : versions_of (take k (part ++ rest)) ≡ (λ j. survivors h (versions_of (take n xs) j)) = fun_ext (λ j. rw front_left (versions_closed h (take n xs) j ∙ sym (survivors_cut h (versions_of (take n xs) j) (falling j)))) in
-      rw closed_long (ap (λ (f : ℕ → List (ℕ × ℕ)). record { keys = keys; cells = length xs; versions = f }) p)
-
-  -- as many go as are dead
-  pub closed_count : (keys : ℕ) → Known keys xs n → Falling (take n xs) → n - k ≡ pruned_count (logged keys (length xs) (take n xs)) h
-  closed_count keys known falling =
-      let m = logged keys (length xs) (take n xs) in
-      let both = dead_and_kept m h in
-      let before = kept_all keys xs n l.within known in
-      let after : kept (pruned m h) ≡ k = ap kept (sym (closed_pruned keys falling)) ∙ kept_all keys (part ++ rest) k closed_fits (closed_known keys known) in
-      omega (arith, both, before, after)
+    -- as many go as are dead
+    pub closed_count : (cells : ℕ) → length log - length (closed (superseded h) log) ≡ pruned_count (logged keys cells log) h
+    closed_count cells =
+        let m = logged keys cells log in
+        let both = dead_and_kept m h in
+        let before = kept_all keys log known in
+        let after : kept (pruned m h) ≡ length (closed (superseded h) log) = ap kept (sym (closed_pruned keys cells)) ∙ kept_all keys (closed (superseded h) log) closed_known in
+        omega (arith, both, before, after)

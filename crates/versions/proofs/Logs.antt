@@ -1,14 +1,18 @@
 -- A packed log: what it means, what a look-up in it finds, and one version more at its end.
-use Rattle.std.proofs.Common.{◌≡◌, ℕ, zero, suc, ◌+◌, ◌<◌, ◌≤◌, true, false, cond, eqb, List, [], length, get_or, take, set, Some, None, Ok, sym, refl, ap, ◌∙◌, ⊎_elim, add-one, arith}
+use Rattle.std.proofs.Common.{◌≡◌, ℕ, zero, suc, ◌+◌, ◌<◌, ◌≤◌, true, false, cond, eqb, List, [], ◌∷◌, ◌++◌, length, get_or, take, fold, Some, None, Ok, sym, refl, ap, ◌∙◌, ⊎_elim, append_assoc, append-nil, length-append, add-one, arith, ◌||◌, Result, Err, drop, length-drop, rules, ltb}
 use mathlib.Core.Path.{fun_ext}
-use Rattle.std.specs.List.{AllWithin}
+use Rattle.std.specs.List.{AllByRecursion, AllWithin}
+use Rattle.std.specs.Result.{is_ok, IsOk, OnOk, OnErr}
 use Rattle.std.proofs.lemmas.List.Sums.{fold_more, fold_push}
-use Rattle.std.proofs.lemmas.Bool.{eq-eqb, ne_eqb, eqb-true, lt-leb, cases_Bool, cases_eq}
-use Rattle.std.proofs.lemmas.List.{take_more_set, take_all, length-set}
+use Rattle.std.proofs.lemmas.List.Elements.{All-push}
+use Rattle.std.proofs.lemmas.Bool.{cases_lt, eq-eqb, ne_eqb, eqb-true, lt-leb, cases_Bool, cases_eq, or_parts, ltb-false}
+use Rattle.std.proofs.ByRecursion.{all_from_every}
+use Rattle.std.proofs.lemmas.List.{take_all}
 use Rattle.stamped.specs.declared.looking.Moment.{Moment}
 use Rattle.stamped.specs.Look.{counts, Of, Last}
+use Rattle.stamped.specs.Packing.{Packing, room}
 use Rattle.versions.specs.declared.store.Version.{Version}
-use Rattle.versions.specs.Meaning.{first_by, newest, put, sum_below}
+use Rattle.versions.specs.Meaning.{Lawful, first_by, newest, put, sum_below, set_up_answer}
 use Rattle.versions.specs.Log.{noted, versions_of, logged, Known, Falling, moment_answer, blank}
 use Rattle.versions.proofs.Lists.{sum_none, sum_one}
 use Rattle.versions.proofs.Meanings.{falls_more}
@@ -62,47 +66,140 @@ module _ (log : List Version) (k : ℕ) (moment : Moment) where
         let e = sym whole ∙ passed 0 (length log) (omega arith) (omega arith) l in
         rw (off, e) refl
 
+-- the first record of a log is the oldest version of its key
+
+noted_on : (k : ℕ) (vs : List (ℕ × ℕ)) (x : Version) → noted k vs x ≡ noted k [] x ++ vs
+noted_on k vs x = ⊎_elim (λ e. rw e refl) (λ e. rw e refl) (cases_Bool (eqb x.key k))
+
+versions_on : (k : ℕ) (xs : List Version) (vs : List (ℕ × ℕ)) → fold (noted k) vs xs ≡ versions_of xs k ++ vs
+versions_on k [] vs = refl
+versions_on k (x ∷ xs) vs =
+    versions_on k xs (noted k vs x)
+    ∙ ap (λ (r : List (ℕ × ℕ)). versions_of xs k ++ r) (noted_on k vs x)
+    ∙ sym (append_assoc (versions_of xs k) (noted k [] x) vs)
+    ∙ ap (λ (r : List (ℕ × ℕ)). r ++ vs) (sym (versions_on k xs (noted k [] x)))
+
+pub oldest_same : (k : ℕ) (x : Version) (xs : List Version) → x.key ≡ k → versions_of (x ∷ xs) k ≡ versions_of xs k ++ (x.stamp, x.value) ∷ []
+oldest_same k x xs q = let e = eq-eqb x.key k q in versions_on k xs (noted k [] x) ∙ rw e refl
+
+pub oldest_other : (k : ℕ) (x : Version) (xs : List Version) → (x.key ≡ k → ⊥) → versions_of (x ∷ xs) k ≡ versions_of xs k
+oldest_other k x xs ne = let e = ne_eqb x.key k ne in versions_on k xs (noted k [] x) ∙ rw e (append-nil (versions_of xs k))
+
 -- how many versions the log has, key by key
 
-noted_length : (k : ℕ) (vs : List (ℕ × ℕ)) (v : Version) → length (noted k vs v) ≡ length vs + cond (eqb v.key k) 1 0
-noted_length k vs v = ⊎_elim (λ e. rw e (omega arith)) (λ e. rw e (omega arith)) (cases_Bool (eqb v.key k))
+abbrev pub KnownEach : ℕ → List Version → Type 0
+KnownEach keys log = AllByRecursion (λ v. v.key < keys) log
 
-pub kept_all : (keys : ℕ) (cells : List Version) (n : ℕ) → n ≤ length cells → Known keys cells n → sum_below keys (λ k. length (versions_of (take n cells) k)) ≡ n
-kept_all keys cells zero h known = sum_none keys
-kept_all keys cells (suc n) h known =
-    let e : (k : ℕ) → length (versions_of (take (n + 1) cells) k) ≡ length (versions_of (take n cells) k) + cond (eqb (get_or cells n blank).key k) 1 0
-    = λ k. ap length (fold_more (noted k) [] cells n blank (omega arith)) ∙ noted_length k (versions_of (take n cells) k) (get_or cells n blank) in
-    let rest = kept_all keys cells n (omega arith) (λ k x low high. known k x low (omega arith)) in
-    let one = sum_one keys (get_or cells n blank).key (λ k. length (versions_of (take n cells) k)) (λ k. length (versions_of (take (n + 1) cells) k)) (known n blank (omega arith) (omega arith)) e in
-    ap (λ (m : ℕ). sum_below keys (λ k. length (versions_of (take m cells) k))) (sym (add-one n)) ∙ omega (arith, one, rest)
+pub each_known : (keys : ℕ) (log : List Version) → Known keys log → KnownEach keys log
+each_known keys log known = all_from_every (λ v. v.key < keys) log (λ k d low high. known k d high)
+
+kept_each : (keys : ℕ) (log : List Version) → KnownEach keys log → sum_below keys (λ k. length (versions_of log k)) ≡ length log
+kept_each keys [] known = sum_none keys
+kept_each keys (x ∷ xs) known =
+    let e : (k : ℕ) → length (versions_of (x ∷ xs) k) ≡ length (versions_of xs k) + cond (eqb x.key k) 1 0
+    = λ k. ⊎_elim
+    (λ (q : x.key ≡ k). let y = eq-eqb x.key k q in ap length (oldest_same k x xs q) ∙ rw (y, length-append (versions_of xs k) ((x.stamp, x.value) ∷ [])) refl)
+    (λ (q : x.key ≡ k → ⊥). let y = ne_eqb x.key k q in ap length (oldest_other k x xs q) ∙ rw y (omega arith))
+    (cases_eq x.key k) in
+    let one = sum_one keys x.key (λ k. length (versions_of xs k)) (λ k. length (versions_of (x ∷ xs) k)) known.0 e in
+    let rest = kept_each keys xs known.1 in
+    omega (arith, one, rest)
+
+pub kept_all : (keys : ℕ) (log : List Version) → Known keys log → sum_below keys (λ k. length (versions_of log k)) ≡ length log
+kept_all keys log known = kept_each keys log (each_known keys log known)
 
 -- no version is of a key beyond the store's
-pub none_beyond : (keys k : ℕ) (cells : List Version) (n : ℕ) → n ≤ length cells → Known keys cells n → keys ≤ k → versions_of (take n cells) k ≡ []
-none_beyond keys k cells zero h known beyond = refl
-none_beyond keys k cells (suc n) h known beyond =
-    let low = known n blank (omega arith) (omega arith) in
-    let other = ne_eqb (get_or cells n blank).key k (λ q. omega (arith, low, q)) in
-    let rest = none_beyond keys k cells n (omega arith) (λ j x a b. known j x a (omega arith)) beyond in
-    ap (λ (m : ℕ). versions_of (take m cells) k) (sym (add-one n)) ∙ fold_more (noted k) [] cells n blank (omega arith) ∙ rw other rest
+none_beyond : (keys k : ℕ) (log : List Version) → KnownEach keys log → keys ≤ k → versions_of log k ≡ []
+none_beyond keys k [] known beyond = refl
+none_beyond keys k (x ∷ xs) known beyond =
+    let low = known.0 in
+    oldest_other k x xs (λ q. omega (arith, low, q)) ∙ none_beyond keys k xs known.1 beyond
 
--- one version more behind the first n
+-- what holds of every log store
+pub log_lawful : (keys : ℕ) (log : Packing Version) → keys ≤ 1024 → room log ≤ 2048 → eqb keys 0 ≡ eqb (room log) 0 → Known keys log.records → Falling log.records → Lawful (logged keys (room log) log.records)
+log_lawful keys log few small both known falling =
+    let all = kept_all keys log.records known in
+    record {
+      falling = falling;
+      inside = λ k beyond. none_beyond keys k log.records (each_known keys log.records known) beyond;
+      room = omega (arith, all);
+      few_keys = few;
+      few_cells = small;
+      both = both;
+    }
 
-module _ (cells : List Version) (n : ℕ) (v : Version) (room : n < length cells) where
-  versions_push : (k : ℕ) → versions_of (take (n + 1) (set cells n v)) k ≡ noted k (versions_of (take n cells) k) v
-  versions_push k = ap (λ (log : List Version). versions_of log k) (take_more_set cells n v room) ∙ fold_push (noted k) [] (take n cells) v
+-- what an accepted set-up shows of its numbers
+set_up_limits : (keys cells : ℕ) → is_ok (set_up_answer keys cells) ≡ true → record { few_keys : keys ≤ 1024; few_cells : cells ≤ 2048; both : eqb keys 0 ≡ eqb cells 0 }
+set_up_limits keys cells fine =
+    ⊎_elim
+    (λ (a : (eqb keys 0 || ltb 1024 keys) ≡ true). absurd (let z = rw a at fine in search rules))
+    (λ (a : (eqb keys 0 || ltb 1024 keys) ≡ false).
+    ⊎_elim
+    (λ (b : (eqb cells 0 || ltb 2048 cells) ≡ true). absurd (let z = rw (a, b) at fine in search rules))
+    (λ (b : (eqb cells 0 || ltb 2048 cells) ≡ false).
+    let k = or_parts (eqb keys 0) (ltb 1024 keys) a in
+    let n = or_parts (eqb cells 0) (ltb 2048 cells) b in
+    record { few_keys = ltb-false _ _ k.1; few_cells = ltb-false _ _ n.1; both = k.0 ∙ sym n.0 })
+    (cases_Bool (eqb cells 0 || ltb 2048 cells)))
+    (cases_Bool (eqb keys 0 || ltb 1024 keys))
 
-  pub logged_push : (keys : ℕ) → logged keys (length (set cells n v)) (take (n + 1) (set cells n v)) ≡ put v.key v.stamp v.value (logged keys (length cells) (take n cells))
-  logged_push keys =
-      let p : versions_of (take (n + 1) (set cells n v)) ≡ (λ k. noted k (versions_of (take n cells) k) v) = fun_ext versions_push in
-      rw (length-set cells n v) (ap (λ (f : ℕ → List (ℕ × ℕ)). record { keys = keys; cells = length cells; versions = f }) p)
+-- and of an empty one whose set-up was accepted
+pub log_made : (keys : ℕ) (log : Packing Version) → log.records ≡ [] → is_ok (set_up_answer keys (length log.rest)) ≡ true → record { known : Known keys log.records; lawful : Lawful (logged keys (room log) log.records) }
+log_made keys log none fine =
+    let long : room log ≡ length log.rest = omega (arith, ap length none) in
+    let known : Known keys log.records = rw none (λ k d within. absurd (omega arith)) in
+    let falling : Falling log.records = rw none (λ k. refl) in
+    let l = set_up_limits keys (length log.rest) fine in
+    record {
+      known = known;
+      lawful = log_lawful keys log l.few_keys (rw long l.few_cells) (rw long l.both) known falling;
+    }
 
-  pub falling_push : (newest (versions_of (take n cells) v.key)).0 < v.stamp → Falling (take n cells) → Falling (take (n + 1) (set cells n v))
+-- one version more behind the others
+
+module _ (log : List Version) (v : Version) where
+  versions_push : (k : ℕ) → versions_of (log ++ v ∷ []) k ≡ noted k (versions_of log k) v
+  versions_push k = fold_push (noted k) [] log v
+
+  pub logged_push : (keys cells : ℕ) → logged keys cells (log ++ v ∷ []) ≡ put v.key v.stamp v.value (logged keys cells log)
+  logged_push keys cells =
+      let p : versions_of (log ++ v ∷ []) ≡ (λ k. noted k (versions_of log k) v) = fun_ext versions_push in
+      ap (λ (f : ℕ → List (ℕ × ℕ)). record { keys = keys; cells = cells; versions = f }) p
+
+  falling_push : (newest (versions_of log v.key)).0 < v.stamp → Falling log → Falling (log ++ v ∷ [])
   falling_push later old k =
       rw (versions_push k)
       (⊎_elim
       (λ (e : eqb v.key k ≡ true).
       let same = eqb-true v.key k e in
       let front = rw same at later in
-      rw e (falls_more (v.stamp, v.value) (versions_of (take n cells) k) front (old k)))
+      rw e (falls_more (v.stamp, v.value) (versions_of log k) front (old k)))
       (λ (e : eqb v.key k ≡ false). rw e (old k))
       (cases_Bool (eqb v.key k)))
+
+-- a version put behind the records of a log, or given back for want of a place
+module _ (keys : ℕ) (old new : Packing Version) (v : Version) (known : Known keys old.records) (lawful : Lawful (logged keys (room old) old.records)) (key : v.key < keys) (later : (newest (versions_of old.records v.key)).0 < v.stamp) where
+  pub push_lawful : (r : Result (Unit {0}) Version) → (IsOk r → 0 < length old.rest) → OnOk r (new ≡ record { records = old.records ++ v ∷ []; rest = drop 1 old.rest }) → OnErr r (new ≡ old) → record { known : Known keys new.records; lawful : Lawful (logged keys (room new) new.records) }
+  push_lawful (Err e) fits pushed full = rw full (record { known = known; lawful = lawful })
+  push_lawful (Ok u) fits pushed full =
+      let some = fits refl in
+      let long : length (old.records ++ v ∷ []) + length (drop 1 old.rest) ≡ room old = simp (length-append, length-drop) (omega (arith, some)) in
+      let more : Known keys (old.records ++ v ∷ []) = All-push (λ x. x.key < keys) old.records v known key in
+      let falling = falling_push old.records v later lawful.falling in
+      let few : length (old.records ++ v ∷ []) + length (drop 1 old.rest) ≤ 2048 = rw long lawful.few_cells in
+      rw pushed
+      (record {
+        known = more;
+        lawful = log_lawful keys (record { records = old.records ++ v ∷ []; rest = drop 1 old.rest }) lawful.few_keys few (lawful.both ∙ ap (λ n. eqb n 0) (sym long)) more falling;
+      })
+
+  pub push_full : (r : Result (Unit {0}) Version) → is_ok r ≡ false → (0 < length old.rest → IsOk r) → OnErr r (new ≡ old) → (length old.rest ≡ 0) × (new ≡ old)
+  push_full (Err e) no' fits full = (⊎_elim (λ (h : 0 < length old.rest). absurd (let z = fits h in search rules)) (λ (h : length old.rest ≤ 0). omega arith) (cases_lt 0 (length old.rest)), full)
+  push_full (Ok u) no' fits full = absurd (search rules)
+
+  pub push_done : (r : Result (Unit {0}) Version) → is_ok r ≡ true → (IsOk r → 0 < length old.rest) → OnOk r (new ≡ record { records = old.records ++ v ∷ []; rest = drop 1 old.rest }) → (0 < length old.rest) × (room new ≡ room old) × (new.records ≡ old.records ++ v ∷ [])
+  push_done (Err e) done fits pushed = absurd (search rules)
+  push_done (Ok u) done fits pushed =
+      let some = fits refl in
+      let long : length (old.records ++ v ∷ []) + length (drop 1 old.rest) ≡ room old = simp (length-append, length-drop) (omega (arith, some)) in
+      (some, rw pushed long, ap (λ (p : Packing Version). p.records) pushed)

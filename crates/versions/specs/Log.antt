@@ -1,6 +1,6 @@
 -- What a packed log of versions means.
 use Rattle.std.specs.Prelude.{◌≡◌, ℕ, ◌<◌, Bool, true, cond, ◌&&◌, List, [], ◌∷◌, Ok, Err, fold, Result, ◌==◌, nat_le, nat_lt}
-use Rattle.std.specs.List.{AllWithin}
+use Rattle.std.specs.List.{All}
 use Rattle.versions.specs.declared.store.Version.{Version}
 use Rattle.stamped.specs.declared.looking.Moment.{Moment}
 use Rattle.stamped.specs.Look.{counts}
@@ -19,9 +19,9 @@ versions_of log k = fold (noted k) [] log
 abbrev pub logged : ℕ → ℕ → List Version → Meaning
 logged keys cells log = record { keys = keys; cells = cells; versions = versions_of log }
 
--- each of the first n versions is of a key of the store
-abbrev pub Known : ℕ → List Version → ℕ → Type 0
-Known keys cells n = AllWithin (λ v. v.key < keys) cells 0 n
+-- each version is of a key of the store
+abbrev pub Known : ℕ → List Version → Type 0
+Known keys log = All (λ v. v.key < keys) log
 
 -- the stamps of each key fall from its newest version to its oldest
 abbrev pub Falling : List Version → Type 0

@@ -1,5 +1,6 @@
 -- What a version store means, and what each call of it answers and leaves.
-use Rattle.std.specs.Prelude.{◌≡◌, ℕ, zero, suc, ◌+◌, ◌-◌, ◌≤◌, Bool, true, false, cond, not, ◌&&◌, ◌||◌, ltb, List, [], ◌∷◌, length, Ok, Err, filter, Result, ◌==◌, nat_eq, nat_le, nat_lt}
+use Rattle.std.specs.Prelude.{◌≡◌, ℕ, zero, suc, ◌+◌, ◌-◌, ◌≤◌, Bool, true, cond, not, ◌&&◌, ◌||◌, ltb, List, [], ◌∷◌, length, Ok, Err, filter, Result, ◌==◌, nat_eq, nat_le, nat_lt}
+use Rattle.std.specs.List.{list_any}
 use Rattle.versions.specs.declared.fault.StoreFault.{StoreFault}
 use Rattle.versions.specs.declared.fault.StoreFault.TheVariants.{Keys, Cells, KeyOutside, Full, StaleStamp}
 
@@ -26,8 +27,7 @@ abbrev pub as_of : ℕ → List (ℕ × ℕ) → ℕ × ℕ
 as_of tick vs = first_by (λ s. ltb s tick) vs
 
 abbrev pub any : {X : Type 0} → (X → Bool) → List X → Bool
-any test [] = false
-any test (x ∷ xs) = test x || any test xs
+any test xs = list_any test xs
 
 -- a version is dead under a horizon if a newer one of its key has a stamp below the horizon
 abbrev pub dead : ℕ → List (ℕ × ℕ) → ℕ × ℕ → Bool

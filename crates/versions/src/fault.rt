@@ -2,7 +2,7 @@ ghost use Rattle.std.specs.Prelude.{◌≡◌};
 ghost use Rattle.versions.specs.Faults.{number_of, place_of};
 
 /// Why a version store refuses.
-#[derive(Clone, Copy)]
+#[derive(Clone, Copy, Debug, PartialEq)]
 pub enum StoreFault {
     /// The number of keys is outside its limits.
     Keys(u16),
@@ -18,6 +18,7 @@ pub enum StoreFault {
     StaleStamp(u16),
 }
 
+// Methods of its own and no trait with the faults of validators: neither crate knows the other, and no code takes any fault.
 impl StoreFault {
     /// Version stores are the first layer.
     pub fn layer(&self) -> u8
@@ -42,10 +43,11 @@ impl StoreFault {
         ensures { result ≡ place_of self.now }
     {
         match *self {
-            StoreFault::Keys(keys) => keys as u64,
+            StoreFault::Keys(keys) => u64::from(keys),
+            // Rust has no `From<usize> for u64`, and a length cannot fail to fit.
             StoreFault::Cells(length) | StoreFault::Heads(length) => length as u64,
             StoreFault::KeyOutside(key) | StoreFault::Full(key) | StoreFault::StaleStamp(key) =>
-                key as u64,
+                u64::from(key),
         }
     }
 }

@@ -2,10 +2,9 @@ ghost use Rattle.std.specs.Prelude.{◌≡◌};
 ghost use Rattle.versions.specs.Meaning.{Meaning, Lawful, kept, free, newest_answer, as_of_answer, add_answer, added, pruned_count, pruned};
 
 use crate::fault::StoreFault;
+pub use stamped::MAX_KEYS;
 use stamped::Stamped;
 
-/// The most keys that a store has.
-pub const MAX_KEYS: u16 = 1024;
 /// The most cells that a store has.
 pub const MAX_CELLS: usize = 2048;
 
@@ -15,6 +14,15 @@ pub struct Version {
     pub key: u16,
     pub stamp: u32,
     pub value: u64,
+}
+
+impl Version {
+    /// A version of nothing, to fill memory with before it is lent.
+    pub const CLEARED: Version = Version {
+        key: 0,
+        stamp: 0,
+        value: 0,
+    };
 }
 
 impl Stamped for Version {
@@ -35,10 +43,6 @@ impl Stamped for Version {
 /// Each key also has a base version, stamp 0 and value 0, that takes no cell.
 pub trait VersionStore {
     ghost meaning: { Self → Meaning };
-
-    /// Does nothing; a caller learns from it what holds of every store.
-    fn attest(&self)
-        ensures { Lawful (meaning self.now) };
 
     fn keys(&self) -> u16
         ensures { result ≡ (meaning self.now).keys };
@@ -68,4 +72,7 @@ pub trait VersionStore {
     /// How many cells are left.
     fn free(&self) -> u16
         ensures { result ≡ free (meaning self.now) };
+
+    // What holds of every store, for generic code to cite.
+    ghost lawful: { (s : Self) → Lawful (meaning s) };
 }

@@ -1,12 +1,14 @@
 use Rattle.validation.proofs.Recents.{found_some, found_none}
 use Rattle.validation.proofs.recent.RecentList.stamp_of.Goals as goal
 
-pub returns-in-Some : goal.returns-in-Some
-returns-in-Some c =
+pub returns-in_default : goal.returns-in_default
+returns-in_default c =
     let s = c.args.self.now in
-    found_some s.keys s.used s.entries.now s.once c.args.key c.in-Some.i c.in-Some.ensures
+    let last = rw c.as_slice-entries.ensures at c.in_default.ensures in
+    found_none s.keys s.entries.records s.once c.args.key last
 
-pub returns-in-None : goal.returns-in-None
-returns-in-None c =
+pub returns : goal.returns
+returns c =
     let s = c.args.self.now in
-    found_none s.keys s.used s.entries.now s.once c.args.key c.in-None.ensures
+    let last = rw c.as_slice-entries.ensures at c.in-Some.ensures in
+    rw c.as_slice-entries.ensures (found_some s.keys s.entries.records s.once c.args.key c.in-Some.i last)

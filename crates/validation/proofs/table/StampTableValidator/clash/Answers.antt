@@ -1,19 +1,14 @@
-use Rattle.std.proofs.Common.{None, refl, arith}
+use Rattle.std.proofs.Common.{None, ap, arith}
 use Rattle.validation.proofs.Answering.{clash_answered, clash_hit}
-use Rattle.validation.proofs.Tables.{granule_in}
 use Rattle.validation.specs.Table.{tabled}
+use Rattle.std.proofs.Common.{slice_index_or}
 use Rattle.validation.proofs.table.StampTableValidator.clash.Goals as goal
-
-pub bounds-self-key : goal.bounds-self-key
-bounds-self-key c =
-    let t = c.args.self.now in
-    let in' = granule_in t.keys t.grain t.some c.loop-key.key (omega arith) in
-    omega arith
 
 pub returns-then-stamp-start : goal.returns-then-stamp-start
 returns-then-stamp-start c =
     let t = c.args.self.now in
-    clash_hit (tabled t.keys t.grain t.stamps.now) c.args.start c.args.first c.args.count c.loop-key.key _ _ (omega arith) (omega arith) (omega arith) (omega arith) refl (omega arith) c.loop-key.invariant
+    let same = ap (λ g. slice_index_or t.stamps.now g 0) c.from-in-loop-key.ensures in
+    clash_hit (tabled t.keys t.grain t.stamps.now) c.args.start c.args.first c.args.count c.loop-key.key _ _ (omega arith) (omega arith) (omega arith) (omega arith) same (omega arith) c.loop-key.invariant
 
 pub returns : goal.returns
 returns c =

@@ -1,23 +1,32 @@
-use Rattle.std.proofs.Common.{eqb, sym, ap, ◌∙◌, arith}
-use Rattle.versions.proofs.Closings.{left_from, closed_long, closed_fits, closed_known, closed_falling, closed_pruned, closed_count}
+use Rattle.std.proofs.Common.{◌≤◌, length, eqb, sym, ap, ◌∙◌, arith}
+use Rattle.stamped.specs.Packing.{room}
+use Rattle.versions.specs.Log.{Known, Falling}
+use Rattle.versions.proofs.Logs.{log_lawful}
+use Rattle.versions.proofs.Closings.{closed_known, closed_falling, closed_pruned, closed_count, closed_few}
 use Rattle.versions.proofs.log.LogStoreVersionStore.prune.Goals as goal
 
 pub invariant_of-self : goal.invariant_of-self
 invariant_of-self c =
     let s = c.args.self.now in
-    let l = left_from c.args.horizon s.used c.close_gaps-left.result s.cells.now c.replace-cells.result.now c.close_gaps-left.new.records (ap (λ r. r.now) c.replace-cells.ensures.value) s.fits c.close_gaps-left.auto.records c.close_gaps-left.ensures.few c.close_gaps-left.ensures.kept in
-    let long = closed_long l in
-    record {
-      few = s.few;
-      small = omega (arith, long);
-      both = s.both ∙ ap (λ n. eqb n 0) (sym long);
-      fits = closed_fits l;
-      known = closed_known l s.keys s.known;
-      falling = closed_falling l s.falling;
-    }
+    let n = c.close_gaps.new.self in
+    let places = c.close_gaps.ensures.places in
+    let kept = c.close_gaps.ensures.kept in
+    let known : Known s.keys n.records = rw kept (closed_known c.args.horizon s.versions.records s.lawful.falling s.keys s.known) in
+    let falling : Falling n.records = rw kept (closed_falling c.args.horizon s.versions.records s.lawful.falling) in
+    let few : room n ≤ 2048 = rw places s.lawful.few_cells in
+    record { known = known; lawful = log_lawful s.keys n s.lawful.few_keys few (s.lawful.both ∙ ap (λ r. eqb r 0) (sym places)) known falling }
 
-pub returns : goal.returns
-returns c =
+pub overflow_sub-result : goal.overflow_sub-result
+overflow_sub-result c =
+    let few = closed_few c.args.horizon c.args.self.now.versions.records in
+    omega (arith, few, ap length c.as_slice-left.ensures, ap length c.as_slice-used.ensures, ap length c.close_gaps.ensures.kept)
+
+pub returns-clause-count : goal.returns-clause-count
+returns-clause-count c =
     let s = c.args.self.now in
-    let l = left_from c.args.horizon s.used c.close_gaps-left.result s.cells.now c.replace-cells.result.now c.close_gaps-left.new.records (ap (λ r. r.now) c.replace-cells.ensures.value) s.fits c.close_gaps-left.auto.records c.close_gaps-left.ensures.few c.close_gaps-left.ensures.kept in
-    record { count = closed_count l s.keys s.known s.falling; after = closed_pruned l s.keys s.falling }
+    rw (c.as_slice-left.ensures, c.as_slice-used.ensures, c.close_gaps.ensures.kept) (closed_count c.args.horizon s.versions.records s.lawful.falling s.keys s.known (room s.versions))
+
+pub returns-clause-after : goal.returns-clause-after
+returns-clause-after c =
+    let s = c.args.self.now in
+    rw (c.close_gaps.ensures.places, c.close_gaps.ensures.kept) (closed_pruned c.args.horizon s.versions.records s.lawful.falling s.keys (room s.versions))
