@@ -1,101 +1,70 @@
--- Steps of the loops that read a line.
-use Rattle.std.proofs.Common.{◌≡◌, ℕ, suc, ◌+◌, ◌-◌, ◌*◌, ◌<◌, ◌≤◌, true, false, cond, ◌&&◌, eqb, leb, List, [], ◌∷◌, ◌++◌, length, get_or, take, drop, Some, None, sym, refl, ap, ◌∙◌, ⊎_elim, append_assoc, append-nil}
-use Rattle.std.proofs.lemmas.List.{take_more, drop_more, drop_all, take_all}
-use Rattle.std.proofs.lemmas.Bool.{eq-eqb, ne_eqb, le-leb, lt-leb, cases_Bool}
-use Rattle.club.specs.Lines.{word, behind, number, digits_on, same}
+-- What the functions that read a line find in it.
+use Rattle.std.proofs.Common.{codes, rules, ◌≡◌, ℕ, suc, ◌+◌, ◌-◌, ◌*◌, ◌<◌, ◌≤◌, true, false, cond, eqb, ltb, leb, List, [], ◌∷◌, length, take, drop, Some, None, Option, sym, refl, ap, ◌∙◌, ⊎_elim, arith}
+use Rattle.std.specs.List.{position_or_len}
+use Rattle.std.proofs.lemmas.List.{drop_all, take_all}
+use Rattle.std.proofs.lemmas.Option.{cond_some}
+use Rattle.std.proofs.lemmas.Bool.{lt-leb, le-leb, cases_Bool}
+use Rattle.std.proofs.lemmas.Slice.Eq.{compares_Decides}
+use Rattle.std.specs.Result.{OkIff}
+use Rattle.club.specs.Lines.{word, behind, number, digits_on, Converts, same, verb}
 
--- the first i bytes are part of the first word
-pub record InWord (line : List ℕ) (i : ℕ) : Type 0 where
-  pub first : take i line ++ word (drop i line) ≡ word line
-  pub rest : behind (drop i line) ≡ behind line
+-- the place of the first space, or the length
+abbrev space_or_len : List ℕ → ℕ
+space_or_len line = position_or_len (λ c. eqb c 32) line
 
-module _ (line : List ℕ) (i : ℕ) (inv : InWord line i) where
-  pub in_word_more : i < length line → (get_or line i 0 ≡ 32 → ⊥) → InWord line (i + 1)
-  in_word_more h other =
-      let e = ne_eqb (get_or line i 0) 32 other in
-      let d = drop_more line i 0 h in
-      record {
-        first = rw (take_more line i 0 h, append_assoc) (rw (d, e) at inv.first);
-        rest = rw (d, e) at inv.rest;
-      }
-
-  module _ (h : i < length line) (space : get_or line i 0 ≡ 32) where
-    pub word_found : take i line ≡ word line
-    word_found =
-        let e = eq-eqb (get_or line i 0) 32 space in
-        sym (append-nil (take i line)) ∙ rw (drop_more line i 0 h, e) at inv.first
-
-    pub rest_found : drop (i + 1) line ≡ behind line
-    rest_found =
-        let e = eq-eqb (get_or line i 0) 32 space in
-        rw (drop_more line i 0 h, e) at inv.rest
-
-  pub word_all : length line ≤ i → line ≡ word line
-  word_all end = sym (take_all i line end) ∙ sym (append-nil (take i line)) ∙ rw (drop_all i line end) at inv.first
-
-  pub rest_none : length line ≤ i → [] ≡ behind line
-  rest_none end = rw (drop_all i line end) at inv.rest
-
-pub in_word_none : (line : List ℕ) → InWord line 0
-in_word_none line = record { first = refl; rest = refl }
-
--- the digits so far make the value
-pub number_none : (ds : List ℕ) (most : ℕ) → (length ds ≡ 0 → ⊥) → digits_on 0 ds most ≡ number ds most
-number_none [] most some = absurd (some refl)
-number_none (c ∷ cs) most some = refl
-
-module _ (ds : List ℕ) (i value most : ℕ) (h : i < length ds) (inv : digits_on value (drop i ds) most ≡ number ds most) where
-  step : cond (leb 48 (get_or ds i 0) && (leb (get_or ds i 0) 57 && leb (value * 10 + (get_or ds i 0 - 48)) most)) (digits_on (value * 10 + (get_or ds i 0 - 48)) (drop (i + 1) ds) most) None ≡ number ds most
-  step = rw (drop_more ds i 0 h) at inv
-
-  pub number_low : get_or ds i 0 < 48 → None ≡ number ds most
-  number_low low = let a = lt-leb 48 (get_or ds i 0) low in rw a at step
-
-  module _ (least : 48 ≤ get_or ds i 0) where
-    pub number_high : 57 < get_or ds i 0 → None ≡ number ds most
-    number_high high =
-        let a = le-leb 48 (get_or ds i 0) least in
-        let b = lt-leb (get_or ds i 0) 57 high in
-        rw (a, b) at step
-
-    module _ (top : get_or ds i 0 ≤ 57) where
-      pub number_long : most < value * 10 + (get_or ds i 0 - 48) → None ≡ number ds most
-      number_long long =
-          let a = le-leb 48 (get_or ds i 0) least in
-          let b = le-leb (get_or ds i 0) 57 top in
-          let e = lt-leb (value * 10 + (get_or ds i 0 - 48)) most long in
-          rw (a, b, e) at step
-
-      pub number_more : value * 10 + (get_or ds i 0 - 48) ≤ most → digits_on (value * 10 + (get_or ds i 0 - 48)) (drop (i + 1) ds) most ≡ number ds most
-      number_more fits =
-          let a = le-leb 48 (get_or ds i 0) least in
-          let b = le-leb (get_or ds i 0) 57 top in
-          let e = le-leb (value * 10 + (get_or ds i 0 - 48)) most fits in
-          rw (a, b, e) at step
-
-pub number_all : (ds : List ℕ) (i value most : ℕ) → length ds ≤ i → digits_on value (drop i ds) most ≡ number ds most → Some value ≡ number ds most
-number_all ds i value most end inv = rw (drop_all i ds end) at inv
-
--- equal words
-pub same_length : (xs ys : List ℕ) → (length xs ≡ length ys → ⊥) → false ≡ same xs ys
-same_length [] [] other = absurd (other refl)
-same_length [] (y ∷ ys) other = refl
-same_length (x ∷ xs) [] other = refl
-same_length (x ∷ xs) (y ∷ ys) other =
+word-take : (line : List ℕ) → take (space_or_len line) line ≡ word line
+word-take [] = refl
+word-take (c ∷ cs) =
+    let one_more : 1 + space_or_len cs ≡ suc (space_or_len cs) = omega arith in
     ⊎_elim
-    (λ (e : eqb x y ≡ true). rw e (same_length xs ys (λ q. other (ap suc q))))
-    (λ (e : eqb x y ≡ false). rw e refl)
-    (cases_Bool (eqb x y))
+    (λ (e : eqb c 32 ≡ true). rw e refl)
+    (λ (e : eqb c 32 ≡ false). rw (e, one_more) (ap (λ w. c ∷ w) (word-take cs)))
+    (cases_Bool (eqb c 32))
 
-module _ (xs ys : List ℕ) (i : ℕ) (h : i < length xs) (k : i < length ys) (inv : same (drop i xs) (drop i ys) ≡ same xs ys) where
-  same_step : (eqb (get_or xs i 0) (get_or ys i 0) && same (drop (i + 1) xs) (drop (i + 1) ys)) ≡ same xs ys
-  same_step = rw (drop_more xs i 0 h, drop_more ys i 0 k) at inv
+behind-drop : (line : List ℕ) → drop (space_or_len line + 1) line ≡ behind line
+behind-drop [] = refl
+behind-drop (c ∷ cs) = grind (arith, behind-drop cs)
 
-  pub same_more : get_or xs i 0 ≡ get_or ys i 0 → same (drop (i + 1) xs) (drop (i + 1) ys) ≡ same xs ys
-  same_more q = let e = eq-eqb (get_or xs i 0) (get_or ys i 0) q in rw e at same_step
+module _ (line : List ℕ) (r : Option ℕ) (found : r ≡ cond (ltb (space_or_len line) (length line)) (Some (space_or_len line)) None) where
+  pub split_at : (i : ℕ) → r ≡ Some i → (take i line ≡ word line) × (drop (i + 1) line ≡ behind line)
+  split_at i at = let p = (cond_some (ltb (space_or_len line) (length line)) (space_or_len line) i (sym found ∙ at)).1 in rw (sym p) (word-take line, behind-drop line)
 
-  pub same_other : (get_or xs i 0 ≡ get_or ys i 0 → ⊥) → false ≡ same xs ys
-  same_other q = let e = ne_eqb (get_or xs i 0) (get_or ys i 0) q in rw e at same_step
+  pub not_split : r ≡ None → (line ≡ word line) × ([] ≡ behind line)
+  not_split none = grind (arith, found, none, word-take line, behind-drop line, take_all, drop_all)
 
-pub same_all : (xs ys : List ℕ) (i : ℕ) → length xs ≤ i → length ys ≤ i → same (drop i xs) (drop i ys) ≡ same xs ys → true ≡ same xs ys
-same_all xs ys i h k inv = rw (drop_all i xs h, drop_all i ys k) at inv
+-- what of a number is at most the given one
+abbrev keep : ℕ → Option ℕ → Option ℕ
+keep most None = None
+keep most (Some n) = cond (leb n most) (Some n) None
+
+digits_on-above : (n : ℕ) (ds : List ℕ) (most top : ℕ) → most < n → keep most (digits_on n ds top) ≡ None
+digits_on-above n [] most top h = grind arith
+digits_on-above n (d ∷ ds) most top h = grind (arith, digits_on-above (n * 10 + (d - 48)) ds most top)
+
+digits_on-keep : (n : ℕ) (ds : List ℕ) (most top : ℕ) → most ≤ top → n ≤ most → digits_on n ds most ≡ keep most (digits_on n ds top)
+digits_on-keep n [] most top h k = grind arith
+digits_on-keep n (d ∷ ds) most top h k = grind (arith, digits_on-keep (n * 10 + (d - 48)) ds most top, digits_on-above (n * 10 + (d - 48)) ds most top)
+
+number-keep : (ds : List ℕ) (most top : ℕ) → most ≤ top → number ds most ≡ keep most (number ds top)
+number-keep [] most top h = refl
+number-keep (d ∷ ds) most top h = digits_on-keep 0 (d ∷ ds) most top h (omega arith)
+
+converted : {E : Type 0} (most : ℕ) (n r : Option ℕ) → Converts {E = E} (λ x y. OkIff y (x < most + 1) x) n r → r ≡ keep most n
+converted most None None h = refl
+converted most None (Some x) h = absurd h.is
+converted most (Some n) None h = let e = lt-leb n most (omega (arith, h.is.1)) in rw e refl
+converted most (Some n) (Some x) h = let e = le-leb n most (omega (arith, h.is.0)) in rw (e, h.is.1) refl
+
+pub number_converts : {E : Type 0} (most : ℕ) → most ≤ 18446744073709551615 → (ds : List ℕ) (r : Option ℕ) → Converts {E = E} (λ x y. OkIff y (x < most + 1) x) (number ds 18446744073709551615) r → r ≡ number ds most
+number_converts most low ds r h = converted most (number ds 18446744073709551615) r h ∙ sym (number-keep ds most 18446744073709551615 low)
+
+-- words that are not equal read otherwise
+other_same : (xs ys : List ℕ) → (xs ≡ ys → ⊥) → same xs ys ≡ false
+other_same xs ys other =
+    ⊎_elim
+    (λ (e : same xs ys ≡ true). absurd (other ((compares_Decides same (search rules) xs ys).0 e)))
+    (λ (e : same xs ys ≡ false). e)
+    (cases_Bool (same xs ys))
+
+pub no_verb : (w : List ℕ) → (w ≡ codes "card" → ⊥) → (w ≡ codes "correct" → ⊥) → (w ≡ codes "recalculate" → ⊥) → (w ≡ codes "finish" → ⊥) → (w ≡ codes "list" → ⊥) → (w ≡ codes "report" → ⊥) → (w ≡ codes "show" → ⊥) → (w ≡ codes "close" → ⊥) → (w ≡ codes "clean" → ⊥) → None ≡ verb w
+no_verb w n0 n1 n2 n3 n4 n5 n6 n7 n8 = rw (other_same w (codes "card") n0, other_same w (codes "correct") n1, other_same w (codes "recalculate") n2, other_same w (codes "finish") n3, other_same w (codes "list") n4, other_same w (codes "report") n5, other_same w (codes "show") n6, other_same w (codes "close") n7, other_same w (codes "clean") n8) refl

@@ -1,5 +1,6 @@
 -- The lines of text that tell of a club's afternoon: a word for the event, and its numbers, a space between.
-use Rattle.std.specs.Prelude.{ℕ, ◌+◌, ◌-◌, ◌*◌, Bool, true, false, cond, ◌&&◌, List, [], ◌∷◌, Some, None, codes, Option, ◌==◌, nat_le}
+use Rattle.std.specs.Prelude.{ℕ, ◌+◌, ◌-◌, ◌*◌, Bool, true, false, cond, ◌&&◌, List, [], ◌∷◌, Some, None, codes, Option, Ok, Err, Result, ◌==◌, nat_le}
+use Rattle.std.specs.Bool.{⊤}
 use Rattle.std.specs.Option.{option_map}
 use Rattle.club.specs.declared.event.Event.{Event}
 use Rattle.club.specs.declared.line.Verb.{Verb}
@@ -43,6 +44,16 @@ abbrev pub three : Option ℕ → Option (ℕ × ℕ) → Option (ℕ × ℕ × 
 three None y = None
 three (Some x) None = None
 three (Some x) (Some p) = Some (x, p.0, p.1)
+
+-- a number converted to a type that may not hold it: `gives` says what the conversion answers
+abbrev pub Converted : {N E : Type 0} → (ℕ → Result N E → Type 0) → Option ℕ → Option N → Type 0
+Converted gives None None = ⊤
+Converted gives None (Some x) = ⊥
+Converted {E} gives (Some n) None = (e : E) × gives n (Err e)
+Converted gives (Some n) (Some x) = gives n (Ok x)
+
+pub record Converts {N E : Type 0} (gives : ℕ → Result N E → Type 0) (n : Option ℕ) (r : Option N) : Type 0 where
+  pub is : Converted gives n r
 
 -- a key or a count of 16 bits
 abbrev pub short : List ℕ → Option ℕ

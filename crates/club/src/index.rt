@@ -5,16 +5,11 @@ ghost use Rattle.club.specs.Indexes.{index};
 pub fn index_of(rounds: &[u64]) -> u64
     ensures { result ≡ index rounds.now }
 {
-    let mut sum: u128 = 0;
-    let mut count: u64 = 0;
-    for round in rounds {
-        sum += *round as u128;
-        if *round > 0 {
-            count += 1;
-        }
-    }
+    let sum: u128 = rounds.iter().map(|round| u128::from(*round)).sum();
+    let count = rounds.iter().filter(|round| **round > 0).count();
     if count == 0 {
         return 0;
     }
+    // No `From` leads from `usize` to `u128`, nor back to `u64`; a mean is no greater than the greatest.
     (sum / count as u128) as u64
 }

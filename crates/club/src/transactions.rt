@@ -16,6 +16,7 @@ pub fn open<S: VersionStore, V: Validator>(
     ensures { Makes S.VersionStore.meaning V.Validator.meaning engine.old engine.new (Opened first count rounds.old rounds.new result) }
 {
     let handle = engine.begin(Kind::Updater)?;
+    // No `inspect_err`: the abort is a step of the transaction, and no closure's side effect.
     if let Err(fault) = engine.read(handle, first, count, rounds) {
         let _ = engine.abort(handle);
         return Err(fault);
@@ -32,6 +33,7 @@ pub fn finish<S: VersionStore, V: Validator>(
 ) -> Result<Verdict, Fault>
     ensures { Makes S.VersionStore.meaning V.Validator.meaning engine.old engine.new (Finished handle key value result) }
 {
+    // No `inspect_err`, as in `open`.
     if let Err(fault) = engine.write(handle, key, value) {
         let _ = engine.abort(handle);
         return Err(fault);

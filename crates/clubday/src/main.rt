@@ -2,6 +2,9 @@
 //! It runs on two engines at once, made of different stores and validators, and compares what they say.
 #![tactic(auto)]
 
+mod said;
+
+use crate::said::{Ended, Recalculation, Redone, Said, Told};
 use chain::cell::Cell;
 use chain::store::ChainStore;
 use club::event::Event;
@@ -9,8 +12,8 @@ use club::index::index_of;
 use club::line::parse;
 use club::transactions::{finish, open, post};
 use engine::engine::Engine;
+use engine::slip::Reading;
 use ledger::{Fault, Kind, Verdict};
-use std::alloc::{AllocError, Global};
 use validation::recent::{Entry, RecentList};
 use validation::table::StampTable;
 use validation::validator::Validator;
@@ -18,63 +21,12 @@ use versions::log::LogStore;
 use versions::store::{Version, VersionStore};
 
 /// The club's table: eight keys, room for nine versions, and ticks for a short afternoon.
+// Lengths of arrays are `KEYS as usize`, since no conversion by `From` can stand there.
 const KEYS: u16 = 8;
 
 const CELLS: usize = 9;
 
 const LAST_TICK: u32 = 51;
-
-/// A recalculation that has read its rounds and not yet written its index.
-#[derive(Clone, Copy)]
-struct Recalculation {
-    handle: u32,
-    first: u16,
-    count: u16,
-    index: u16,
-    value: u64,
-}
-
-fn refusal(heap: Global, fault: Fault) -> Result<String, AllocError> {
-    let layer = fault.layer();
-    let number = fault.number();
-    let place = fault.place();
-    format!(in heap; "refused {layer} {number} {place}")
-}
-
-fn verdict_text(heap: Global, verdict: Verdict) -> Result<String, AllocError> {
-    match verdict {
-        Verdict::Closed => String::from_str(heap, "closed"),
-        Verdict::Restart(key, stamp) => format!(in heap;
-            "restarted by the commit at tick {stamp} on key {key}"
-        ),
-        Verdict::Spent => String::from_str(heap, "spent: no tick is left"),
-        Verdict::Full(writes, free) => format!(in heap; "full: {writes} to write, {free} free"),
-        Verdict::Committed(tick) => format!(in heap; "committed at tick {tick}"),
-    }
-}
-
-fn ended(heap: Global, ended: Result<Verdict, Fault>) -> Result<String, AllocError> {
-    match ended {
-        Ok(verdict) => verdict_text(heap, verdict),
-        Err(fault) => refusal(heap, fault),
-    }
-}
-
-fn values_text(
-    heap: Global,
-    read: Result<(), Fault>,
-    values: &[u64],
-) -> Result<String, AllocError> {
-    if let Err(fault) = read {
-        return refusal(heap, fault);
-    }
-    let mut text = String::from_str(heap, "values")?;
-    for value in values {
-        let word = format!(in heap; " {value}")?;
-        text.push_str(word.as_str())?;
-    }
-    Ok(text)
-}
 
 /// One engine with the recalculation that is under way on it.
 #[derive(Drop)]
@@ -83,132 +35,112 @@ struct Desk<S, V> {
     pending: Option<Recalculation>,
 }
 
-impl<S: VersionStore, V: Validator> Desk<S, V> {
-    fn post(&mut self, heap: Global, key: u16, value: u64) -> Result<String, AllocError> {
-        let text = ended(heap, post(&mut self.engine, key, value))?;
-        format!(in heap; "card {value} for key {key}: {text}")
-    }
-
-    fn correct(&mut self, heap: Global, key: u16, value: u64) -> Result<String, AllocError> {
-        let mut old = [0u64; 1];
-        let handle = match open(&mut self.engine, key, 1, &mut old) {
-            Ok(handle) => handle,
-            Err(fault) => return refusal(heap, fault),
-        };
-        let text = ended(heap, finish(&mut self.engine, handle, key, value))?;
-        let was = old[0];
-        format!(in heap; "card {value} for key {key} in place of {was}: {text}")
-    }
-
-    /// Reads the rounds of a recalculation, and remembers the index to write.
-    fn recalculate(
-        &mut self,
-        heap: Global,
-        first: u16,
-        count: u16,
-        index: u16,
-    ) -> Result<String, AllocError> {
-        let mut rounds = [0u64; KEYS as usize];
-        match open(&mut self.engine, first, count, &mut rounds) {
-            Ok(handle) => {
-                let used = (count as usize).min(rounds.len());
-                let value = index_of(&rounds[0..used]);
-                self.pending = Some(Recalculation {
-                    handle,
-                    first,
-                    count,
-                    index,
-                    value,
-                });
-                format!(in heap;
-                    "recalculation {handle} read {count} rounds: index {value} for key {index}"
-                )
-            }
-            Err(fault) => refusal(heap, fault),
+impl<S: VersionStore + Drop, V: Validator + Drop> Desk<S, V> {
+    fn new(store: S, validator: V) -> Self {
+        Desk {
+            engine: Engine::make(LAST_TICK, store, validator),
+            pending: None,
         }
+    }
+
+    fn post(&mut self, key: u16, value: u64) -> Said {
+        let end = Told(post(&mut self.engine, key, value).map(Ended));
+        Said::Card(key, value, end)
+    }
+
+    fn correct(&mut self, key: u16, value: u64) -> Result<Said, Fault> {
+        let mut old = [0];
+        let handle = open(&mut self.engine, key, 1, &mut old)?;
+        let end = Told(finish(&mut self.engine, handle, key, value).map(Ended));
+        Ok(Said::Correction(key, value, old[0], end))
+    }
+
+    /// Reads the rounds of a recalculation, and works out the index to write.
+    fn read_rounds(&mut self, first: u16, count: u16, index: u16) -> Result<Recalculation, Fault> {
+        let mut rounds = [0; KEYS as usize];
+        let handle = open(&mut self.engine, first, count, &mut rounds)?;
+        let used = usize::from(count).min(rounds.len());
+        let value = index_of(&rounds[..used]);
+        Ok(Recalculation {
+            handle,
+            first,
+            count,
+            index,
+            value,
+        })
+    }
+
+    // First, count and index stand apart here as in the event.
+    fn recalculate(&mut self, first: u16, count: u16, index: u16) -> Result<Said, Fault> {
+        if self.pending.is_some() {
+            return Ok(Said::AlreadyOpen);
+        }
+        let work = self.read_rounds(first, count, index)?;
+        self.pending = Some(work);
+        Ok(Said::Recalculation(work))
+    }
+
+    fn write_index(&mut self, work: Recalculation) -> Result<Verdict, Fault> {
+        finish(&mut self.engine, work.handle, work.index, work.value)
+    }
+
+    fn redo(&mut self, work: Recalculation) -> Result<Redone, Fault> {
+        let work = self.read_rounds(work.first, work.count, work.index)?;
+        let end = Told(self.write_index(work).map(Ended));
+        Ok(Redone { work, end })
     }
 
     /// Commits the recalculation; one that is restarted is done again at once.
-    fn finish(&mut self, heap: Global) -> Result<String, AllocError> {
+    fn finish(&mut self) -> Result<Said, Fault> {
         let Some(work) = self.pending.take() else {
-            return String::from_str(heap, "no recalculation is open");
+            return Ok(Said::NoneOpen);
         };
-        let first = finish(&mut self.engine, work.handle, work.index, work.value);
-        let text = ended(heap, first)?;
-        if let Ok(Verdict::Restart(_, _)) = first {
-            let again = self.recalculate(heap, work.first, work.count, work.index)?;
-            let Some(work) = self.pending.take() else {
-                return format!(in heap; "{text}; again: {again}");
-            };
-            let last = ended(
-                heap,
-                finish(&mut self.engine, work.handle, work.index, work.value),
-            )?;
-            return format!(in heap; "{text}; again: {again}, {last}");
+        match self.write_index(work)? {
+            restart @ Verdict::Restart(_, _) => {
+                Ok(Said::Restarted(Ended(restart), Told(self.redo(work))))
+            }
+            verdict => Ok(Said::Ended(Ended(verdict))),
         }
-        Ok(text)
     }
 
     /// The club list: a reader with a slip in hand, which has to be given up.
-    fn list(&mut self, heap: Global) -> Result<String, AllocError> {
-        let mut values = [0u64; KEYS as usize];
-        let slip = match self.engine.begin_reader() {
-            Ok(slip) => slip,
-            Err(fault) => return refusal(heap, fault),
-        };
+    fn list(&mut self) -> Result<Said, Fault> {
+        let mut values = [0; KEYS as usize];
+        let slip = self.engine.begin_slip::<Reading>()?;
         let read = self.engine.read_under(&slip, 0, KEYS, &mut values);
         let _ = self.engine.commit_under(slip);
-        values_text(heap, read, &values)
+        read?;
+        Ok(Said::Values(values))
     }
 
-    fn report(&mut self, heap: Global) -> Result<String, AllocError> {
-        match self.engine.begin(Kind::Reader) {
-            Ok(handle) => format!(in heap; "report {handle} opened"),
-            Err(fault) => refusal(heap, fault),
-        }
+    fn show(&mut self, report: u32) -> Result<Said, Fault> {
+        let mut values = [0; KEYS as usize];
+        self.engine.read(report, 0, KEYS, &mut values)?;
+        Ok(Said::Values(values))
     }
 
-    fn act(&mut self, heap: Global, event: Event) -> Result<String, AllocError> {
-        let mut values = [0u64; KEYS as usize];
+    fn act(&mut self, event: Event) -> Result<Said, Fault> {
         match event {
-            Event::Card(key, value) => self.post(heap, key, value),
-            Event::Correction(key, value) => self.correct(heap, key, value),
-            Event::Recalculation(_, _, _) if self.pending.is_some() => {
-                String::from_str(heap, "a recalculation is open already")
-            }
-            Event::Recalculation(first, count, index) => self.recalculate(
-                heap, first, count, index,
-            ),
-            Event::Finish => self.finish(heap),
-            Event::List => self.list(heap),
-            Event::Report => self.report(heap),
-            Event::Show(handle) => {
-                let read = self.engine.read(handle, 0, KEYS, &mut values);
-                values_text(heap, read, &values)
-            }
-            Event::Close(handle) => ended(heap, self.engine.commit(handle)),
-            Event::CleanUp => {
-                let removed = self.engine.reclaim();
-                format!(in heap; "{removed} versions removed")
-            }
+            Event::Card(key, value) => Ok(self.post(key, value)),
+            Event::Correction(key, value) => self.correct(key, value),
+            Event::Recalculation(first, count, index) => self.recalculate(first, count, index),
+            Event::Finish => self.finish(),
+            Event::List => self.list(),
+            Event::Report => self.engine.begin(Kind::Reader).map(Said::Report),
+            Event::Show(report) => self.show(report),
+            Event::Close(report) => self.engine.commit(report).map(Ended).map(Said::Ended),
+            Event::CleanUp => Ok(Said::Removed(self.engine.reclaim())),
         }
     }
 }
 
 /// Makes each event on both engines, prints what they say, and counts the lines on which they differ.
 fn run<S: VersionStore + Drop, V: Validator + Drop, T: VersionStore + Drop, W: Validator + Drop>(
-    rt: &HostRuntime,
-    one: Engine<S, V>,
-    other: Engine<T, W>,
+    rt: &(impl Input + Print + AllocGlobal),
+    mut one: Desk<S, V>,
+    mut other: Desk<T, W>,
 ) -> anyhow::Result<()> {
-    let mut one = Desk {
-        engine: one,
-        pending: None,
-    };
-    let mut other = Desk {
-        engine: other,
-        pending: None,
-    };
+    // No `zip(1..)`: the count of the lines is printed after the loop too.
     let mut number: u32 = 0;
     let mut differ: u32 = 0;
     for line in rt.lines(rt.alloc()) {
@@ -218,10 +150,10 @@ fn run<S: VersionStore + Drop, V: Validator + Drop, T: VersionStore + Drop, W: V
             println!(rt; "{number} refused 4 7 {number}")?;
             continue;
         };
-        let said = one.act(rt.alloc(), event)?;
-        let says = other.act(rt.alloc(), event)?;
+        let said = Told(one.act(event));
+        let says = Told(other.act(event));
         println!(rt; "{number} {said}")?;
-        if said.as_str() != says.as_str() {
+        if said != says {
             differ = differ.saturating_add(1);
             println!(rt; "{number} the other engine: {says}")?;
         }
@@ -230,51 +162,16 @@ fn run<S: VersionStore + Drop, V: Validator + Drop, T: VersionStore + Drop, W: V
     Ok(())
 }
 
-/// The log store with the recent list.
-fn with_log(rt: &HostRuntime) -> anyhow::Result<()> {
-    let mut cells = [Version {
-        key: 0,
-        stamp: 0,
-        value: 0,
-    }; CELLS];
-    let mut entries = [Entry { key: 0, stamp: 0 }; KEYS as usize];
-    let store = LogStore::make(KEYS, &mut cells);
-    let validator = RecentList::make(KEYS, &mut entries);
-    with_chain(rt, store, validator)
-}
-
-/// The chain store with the stamp table, beside another store and validator.
-fn with_chain<S: VersionStore + Drop, V: Validator + Drop>(
-    rt: &HostRuntime,
-    store: S,
-    validator: V,
-) -> anyhow::Result<()> {
+/// The log store with the recent list, beside the chain store with the stamp table.
+fn main(rt: HostRuntime) -> anyhow::Result<()> {
+    let mut versions = [Version::CLEARED; CELLS];
+    let mut entries = [Entry::CLEARED; KEYS as usize];
     let mut heads = [None; KEYS as usize];
-    let mut cells = [Cell {
-        stamp: 0,
-        value: 0,
-        next: None,
-    }; CELLS];
-    let mut stamps = [0u32; KEYS as usize];
+    let mut cells = [Cell::CLEARED; CELLS];
+    let mut stamps = [0; KEYS as usize];
+    let log = LogStore::make(KEYS, &mut versions);
+    let recent = RecentList::make(KEYS, &mut entries);
     let chain = ChainStore::make(KEYS, &mut heads, &mut cells);
     let table = StampTable::make(KEYS, 1, &mut stamps);
-    start(rt, store, validator, chain, table)
-}
-
-fn start<S: VersionStore + Drop, V: Validator + Drop, T: VersionStore + Drop, W: Validator + Drop>(
-    rt: &HostRuntime,
-    store: S,
-    validator: V,
-    chain: T,
-    table: W,
-) -> anyhow::Result<()> {
-    run(
-        rt,
-        Engine::make(LAST_TICK, store, validator),
-        Engine::make(LAST_TICK, chain, table),
-    )
-}
-
-fn main(rt: HostRuntime) -> anyhow::Result<()> {
-    with_log(&rt)
+    run(&rt, Desk::new(log, recent), Desk::new(chain, table))
 }

@@ -8,6 +8,5 @@ pub mod Replayings
 pub mod Reclaims
 pub mod Installs
 pub mod Validations
-pub mod Turns
 pub mod Reclaimings
 pub mod Commits

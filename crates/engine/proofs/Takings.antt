@@ -1,8 +1,10 @@
 -- What begin, read, write and abort do is the ledger's step.
-use Rattle.std.proofs.Common.{◌≡◌, ℕ, ◌+◌, ◌<◌, ◌≤◌, Bool, true, false, cond, not, ◌&&◌, ltb, leb, List, ◌∷◌, ◌++◌, map, length, drop, set, Some, Ok, Err, Result, sym, refl, ap, ◌∙◌, subst, arith}
+use Rattle.std.proofs.Common.{◌≡◌, ℕ, ◌+◌, ◌<◌, ◌≤◌, Bool, true, false, cond, not, ◌&&◌, ltb, leb, List, ◌∷◌, ◌++◌, map, length, get_or, drop, set, Some, None, Ok, Err, Result, sym, refl, ap, ◌∙◌, subst, arith}
 use Rattle.std.specs.List.{AllByRecursion}
 use Rattle.std.proofs.ByRecursion.{All-weaker}
+use Rattle.std.specs.Result.{IsErrAnd}
 use Rattle.std.proofs.lemmas.Bool.{leb-true, ltb-false}
+use Rattle.std.proofs.lemmas.Result.{err_from_is_err_and}
 use Rattle.ledger.specs.declared.Kind.{Kind}
 use Rattle.ledger.specs.declared.Call.{Call}
 use Rattle.ledger.specs.declared.Call.TheVariants.{Begin, Read, Write, Abort}
@@ -24,7 +26,7 @@ use Rattle.transaction_table.specs.Shuffle.{Shuffle, keep, join}
 use Rattle.engine.specs.Fits.{Fits}
 use Rattle.engine.specs.Serves.{Steps, told}
 use Rattle.transaction_table.proofs.Shuffles.{shuffle_length, shuffle_kept, shuffle_map}
-use Rattle.transaction_table.proofs.Slots.{slots_free, slots_put, slots_same}
+use Rattle.transaction_table.proofs.Slots.{here_at, slots_free, slots_put, slots_same}
 use Rattle.engine.proofs.Fills.{shown_joined, map_all, keys_below}
 use Rattle.engine.proofs.Fittings.{last_is, limits_are, busy, places_apart, found_same, found_here, shown_seen, keeps_refused, keeps_moved}
 
@@ -103,12 +105,19 @@ module _ {l : Ledger} {t : Table} {s : Store} {v : Stamps} (f : Fits l t s v) wh
 
   -- Read and write
 
-  pub no_record : (c : Call) (b : List ℕ) (h : ℕ) → step l c b ≡ refused l b (NoTransaction h) → Steps l c b (Refused (NoTransaction h)) b t s v
-  no_record c b h e = keeps_refused f c b (NoTransaction h) t e refl refl f.active
+  -- no record is taken with the handle
+  pub missing_steps : {X : Type 0} (told-of : X → Answer) (c : Call) (b : List ℕ) (h : ℕ) (r : Result X Fault) (x : Fault) → IsErrAnd r (λ y. y ≡ x) → (x ≡ NoTransaction h) × (found (active_of t.records) h ≡ None) → (found l.active h ≡ None → step l c b ≡ refused l b (NoTransaction h)) → Steps l c b (told told-of r) b t s v
+  missing_steps told-of c b h r x err (is-x, none) stays =
+      let p = err_from_is_err_and r err in
+      rw (p.1, p.2, is-x) (keeps_refused f c b (NoTransaction h) t (stays (found_same f h ∙ none)) refl refl f.active)
 
-  module _ (h i : ℕ) (here : Here t.records h i) (new : Record) (kept : new.state ≡ here.at.state) where
-    keys_are : l.limits.keys ≡ s.keys
-    keys_are = ap (λ n. n.keys) (limits_are f (busy f h _ (found_here f h i here)))
+  -- the record at i became new
+  module _ (h i : ℕ) (there : Here t.records h i) (d new : Record) (kept : new.state ≡ (get_or t.records i d).state) (keys : ℕ) (of-store : keys ≡ s.keys) where
+    abbrev pub here : Here t.records h i
+    here = here_at t.records h i there d
+
+    keys_are : l.limits.keys ≡ keys
+    keys_are = ap (λ n. n.keys) (limits_are f (busy f h _ (found_here f h i here))) ∙ sym of-store
 
     -- the record took the call
     took : (c : Call) (b b' : List ℕ) (a : Answer) (g : Transaction → Transaction) → step l c b ≡ record { answer = a; buffer = b'; ledger = with_active l (changed l.active h g) } → view new ≡ g (view here.at) → Steps l c b a b' (with_record t i new) s v
@@ -121,19 +130,19 @@ module _ {l : Ledger} {t : Table} {s : Store} {v : Stamps} (f : Fits l t s v) wh
     stayed : (c : Call) (b : List ℕ) (x : Fault) → step l c b ≡ refused l b x → view new ≡ view here.at → Steps l c b (Refused x) b (with_record t i new) s v
     stayed c b x e is = keeps_refused f c b x (with_record t i new) e refl refl (subst (Shuffle l.active) (sym (slots_same t.records i here.at new here.reads kept is)) f.active)
 
-    pub write_steps : (k x room : ℕ) (b : List ℕ) (r : Result (Unit {0}) Fault) → r ≡ admits s.keys room (view here.at) (Write h k x) → view new ≡ noted_on r (view here.at) (Write h k x) → Steps l (Write h k x) b (told (λ _. Wrote) r) b (with_record t i new) s v
-    write_steps k x room b (Ok u) e is = took (Write h k x) b b Wrote (λ u. wrote u k x) (write_step l b h k x _ s.keys room keys_are (found_here f h i here) ∙ ap (outcome l b Wrote b (changed l.active h (λ u. wrote u k x))) (sym e)) is
-    write_steps k x room b (Err y) e is = stayed (Write h k x) b y (write_step l b h k x _ s.keys room keys_are (found_here f h i here) ∙ ap (outcome l b Wrote b (changed l.active h (λ u. wrote u k x))) (sym e)) is
+    pub write_steps : (k x room : ℕ) (b : List ℕ) (r : Result (Unit {0}) Fault) → r ≡ admits keys room (view here.at) (Write h k x) → view new ≡ noted_on r (view here.at) (Write h k x) → Steps l (Write h k x) b (told (λ _. Wrote) r) b (with_record t i new) s v
+    write_steps k x room b (Ok u) e is = took (Write h k x) b b Wrote (λ u. wrote u k x) (write_step l b h k x _ keys room keys_are (found_here f h i here) ∙ ap (outcome l b Wrote b (changed l.active h (λ u. wrote u k x))) (sym e)) is
+    write_steps k x room b (Err y) e is = stayed (Write h k x) b y (write_step l b h k x _ keys room keys_are (found_here f h i here) ∙ ap (outcome l b Wrote b (changed l.active h (λ u. wrote u k x))) (sym e)) is
 
-    read_is : (k n : ℕ) (b : List ℕ) (r : Result (Unit {0}) Fault) → r ≡ admits s.keys (length b) (view here.at) (Read h k n) → step l (Read h k n) b ≡ outcome l b ReadDone (map (seen l (view here.at)) (keys_from k n) ++ drop n b) (changed l.active h (λ u. joined u k n)) r
-    read_is k n b r e = read_step l b h k n _ s.keys keys_are (found_here f h i here) ∙ ap (outcome l b ReadDone (map (seen l (view here.at)) (keys_from k n) ++ drop n b) (changed l.active h (λ u. joined u k n))) (sym e)
+    read_is : (k n : ℕ) (b : List ℕ) (r : Result (Unit {0}) Fault) → r ≡ admits keys (length b) (view here.at) (Read h k n) → step l (Read h k n) b ≡ outcome l b ReadDone (map (seen l (view here.at)) (keys_from k n) ++ drop n b) (changed l.active h (λ u. joined u k n)) r
+    read_is k n b r e = read_step l b h k n _ keys keys_are (found_here f h i here) ∙ ap (outcome l b ReadDone (map (seen l (view here.at)) (keys_from k n) ++ drop n b) (changed l.active h (λ u. joined u k n))) (sym e)
 
-    pub read_refused : (k n : ℕ) (b : List ℕ) (x : Fault) → Err x ≡ admits s.keys (length b) (view here.at) (Read h k n) → view new ≡ view here.at → Steps l (Read h k n) b (Refused x) b (with_record t i new) s v
+    pub read_refused : (k n : ℕ) (b : List ℕ) (x : Fault) → Err x ≡ admits keys (length b) (view here.at) (Read h k n) → view new ≡ view here.at → Steps l (Read h k n) b (Refused x) b (with_record t i new) s v
     read_refused k n b x e is = stayed (Read h k n) b x (read_is k n b (Err x) e) is
 
-    pub read_steps : (k n : ℕ) (b b' : List ℕ) → Ok tt ≡ admits s.keys (length b) (view here.at) (Read h k n) → view new ≡ joined (view here.at) k n → b' ≡ map (shown s (view new)) (keys_from k n) ++ drop n b → Steps l (Read h k n) b ReadDone b' (with_record t i new) s v
+    pub read_steps : (k n : ℕ) (b b' : List ℕ) → Ok tt ≡ admits keys (length b) (view here.at) (Read h k n) → view new ≡ joined (view here.at) k n → b' ≡ map (shown s (view new)) (keys_from k n) ++ drop n b → Steps l (Read h k n) b ReadDone b' (with_record t i new) s v
     read_steps k n b b' e is filled =
         let u = view here.at in
-        let each : AllByRecursion (λ j. shown s (view new) j ≡ seen l u j) (keys_from k n) = All-weaker (λ j. j < s.keys) _ (λ j lt. ap (λ x. shown s x j) is ∙ shown_joined s u k n j ∙ shown_seen f h u (found_here f h i here) j lt) (keys_from k n) (keys_below k n s.keys (admitted_read s.keys (length b) u h k n e).0) in
+        let each : AllByRecursion (λ j. shown s (view new) j ≡ seen l u j) (keys_from k n) = All-weaker (λ j. j < s.keys) _ (λ j lt. ap (λ x. shown s x j) is ∙ shown_joined s u k n j ∙ shown_seen f h u (found_here f h i here) j lt) (keys_from k n) (keys_below k n s.keys (subst (λ z. k + n ≤ z) of-store (admitted_read keys (length b) u h k n e).0)) in
         subst (λ x. Steps l (Read h k n) b ReadDone x (with_record t i new) s v) (sym (filled ∙ ap (λ xs. xs ++ drop n b) (map_all _ (seen l u) (keys_from k n) each)))
         (took (Read h k n) b _ ReadDone (λ u. joined u k n) (read_is k n b (Ok tt) e) is)

@@ -1,10 +1,11 @@
-ghost use Rattle.std.specs.Prelude.{◌≡◌, ◌+◌, ◌^◌, ◌<◌, ◌≤◌, ◌++◌, map, length, drop};
+ghost use Rattle.std.specs.Prelude.{◌≡◌, ◌+◌, ◌^◌, ◌<◌, ◌≤◌, ◌++◌, map, length, drop, None, IfOk, IfErr};
 ghost use Rattle.ledger.specs.declared.Call.TheVariants.{Begin, Read, Write, Abort};
 ghost use Rattle.ledger.specs.declared.Answer.TheVariants.{Began, Read as ReadDone, Wrote, Aborted};
-ghost use Rattle.ledger.specs.Ledger.{new_ledger};
+ghost use Rattle.ledger.specs.declared.Fault.TheVariants.{NoTransaction};
+ghost use Rattle.ledger.specs.Ledger.{new_ledger, found};
 ghost use Rattle.ledger.specs.Calls.{keys_from};
-ghost use Rattle.transaction_table.specs.View.{view};
-ghost use Rattle.transaction_table.specs.Places.{begin_answer};
+ghost use Rattle.transaction_table.specs.View.{view, active_of};
+ghost use Rattle.transaction_table.specs.Places.{begin_answer, Here};
 ghost use Rattle.engine.specs.Shows.{shown, value_in};
 ghost use Rattle.engine.specs.Fits.{Fits, limits_of};
 ghost use Rattle.engine.specs.SetUp.{set_up_answer, last_of};
@@ -33,8 +34,9 @@ pub struct Engine<S, V> {
 
 impl<S: VersionStore, V: Validator> Engine<S, V> {
     /// Whether an engine can be made of these.
+    // The three travel together only as far as `make`, and the struct of them is what it makes.
     pub fn check(last: u32, store: &S, validator: &V) -> Result<(), Fault>
-        ensures { result ≡ set_up_answer last (S.VersionStore.meaning store.now) (V.Validator.meaning validator.now) }
+        ensures { result ≡ set_up_answer last (S.meaning store.now) (V.meaning validator.now) }
     {
         if last == 0 || last > LAST_TICK {
             return Err(Fault::LastTick(last));
@@ -49,13 +51,10 @@ impl<S: VersionStore, V: Validator> Engine<S, V> {
     pub fn make(last: u32, store: S, validator: V) -> Engine<S, V>
         ensures store { result.store ≡ store }
         ensures validator { result.validator ≡ validator }
-        ensures last { result.table.last ≡ last_of last (S.VersionStore.meaning store) (V.Validator.meaning validator) }
-        ensures fits { Fits (new_ledger (limits_of result.table.last (S.VersionStore.meaning result.store) (V.Validator.meaning result.validator))) result.table (S.VersionStore.meaning result.store) (V.Validator.meaning result.validator) }
+        ensures last { result.table.last ≡ last_of last (S.meaning store) (V.meaning validator) }
+        ensures fits { Fits (new_ledger (limits_of result.table.last (S.meaning result.store) (V.meaning result.validator))) result.table (S.meaning result.store) (V.meaning result.validator) }
     {
-        let last = match Self::check(last, &store, &validator) {
-            Ok(()) => last,
-            Err(_) => 0,
-        };
+        let last = Self::check(last, &store, &validator).map_or(0, |()| last);
         Engine {
             store,
             validator,
@@ -66,13 +65,14 @@ impl<S: VersionStore, V: Validator> Engine<S, V> {
     /// Begins a transaction, and gives its handle.
     pub fn begin(&mut self, kind: Kind) -> Result<u32, Fault>
         ensures answer { result ≡ begin_answer self.old.table }
-        ensures serves { ServesBare S.VersionStore.meaning V.Validator.meaning self.old self.new (Begin kind) (told Began result) }
+        ensures serves { ServesBare S.meaning V.meaning self.old self.new (Begin kind) (told Began result) }
         ensures idle { Idle self.old self.new }
     {
         self.table.begin(kind)
     }
 
     /// Reads the values of count keys from the first on into the front of the buffer.
+    // First and count stand apart, as the caller of a call gives them; from here on they are a `Range`.
     pub fn read(
         &mut self,
         handle: u32,
@@ -80,12 +80,10 @@ impl<S: VersionStore, V: Validator> Engine<S, V> {
         count: u16,
         buffer: &mut [u64],
     ) -> Result<(), Fault>
-        ensures serves { Serves S.VersionStore.meaning V.Validator.meaning self.old self.new (Read handle first count) buffer.old (told (λ _. ReadDone) result) buffer.new }
+        ensures serves { Serves S.meaning V.meaning self.old self.new (Read handle first count) buffer.old (told (λ _. ReadDone) result) buffer.new }
         ensures idle { Idle self.old self.new }
     {
-        let Some(slot) = self.table.find(handle) else {
-            return Err(Fault::NoTransaction(handle));
-        };
+        let slot = self.place(handle)?;
         let keys = self.store.keys();
         let record = &mut self.table.records[slot];
         record.take(Call::Read(handle, first, count), keys, buffer.len())?;
@@ -95,12 +93,10 @@ impl<S: VersionStore, V: Validator> Engine<S, V> {
 
     /// Notes a value to be written to a key when the transaction is committed.
     pub fn write(&mut self, handle: u32, key: u16, value: u64) -> Result<(), Fault>
-        ensures serves { ServesBare S.VersionStore.meaning V.Validator.meaning self.old self.new (Write handle key value) (told (λ _. Wrote) result) }
+        ensures serves { ServesBare S.meaning V.meaning self.old self.new (Write handle key value) (told (λ _. Wrote) result) }
         ensures idle { Idle self.old self.new }
     {
-        let Some(slot) = self.table.find(handle) else {
-            return Err(Fault::NoTransaction(handle));
-        };
+        let slot = self.place(handle)?;
         let keys = self.store.keys();
         let record = &mut self.table.records[slot];
         record.take(Call::Write(handle, key, value), keys, 0)
@@ -108,10 +104,18 @@ impl<S: VersionStore, V: Validator> Engine<S, V> {
 
     /// Ends a transaction, and nothing that it wrote is kept.
     pub fn abort(&mut self, handle: u32) -> Result<(), Fault>
-        ensures serves { ServesBare S.VersionStore.meaning V.Validator.meaning self.old self.new (Abort handle) (told (λ _. Aborted) result) }
+        ensures serves { ServesBare S.meaning V.meaning self.old self.new (Abort handle) (told (λ _. Aborted) result) }
         ensures idle { Idle self.old self.new }
     {
         self.table.release(handle)
+    }
+
+    /// The place of the transaction with this handle, if there is one.
+    fn place(&self, handle: u32) -> Result<usize, Fault>
+        ensures there { IfOk result (Here self.now.table.records handle) }
+        ensures missing { IfErr result (λ fault. (fault ≡ NoTransaction handle) × (found (active_of self.now.table.records) handle ≡ None)) }
+    {
+        self.table.find(handle).ok_or(Fault::NoTransaction(handle))
     }
 }
 
@@ -119,33 +123,32 @@ impl<S: VersionStore, V: Validator> Engine<S, V> {
 fn fill<S: VersionStore>(store: &S, taker: &Record, first: u16, count: u16, buffer: &mut [u64])
     requires count_in_bounds { count ≤ length buffer.old }
     requires count_bound { first + count < 2 ^ 16 }
-    ensures { buffer.new ≡ map (shown (S.VersionStore.meaning store.now) (view taker.now)) (keys_from first count) ++ drop count buffer.old }
+    ensures { buffer.new ≡ map (shown (S.meaning store.now) (view taker.now)) (keys_from first count) ++ drop count buffer.old }
 {
-    for i in 0..count {
-        buffer[i as usize] = value_at(store, taker, first + i);
+    // No `zip` with the keys: of what a loop writes through a `zip` no proof knows the values.
+    let front = &mut buffer[..usize::from(count)];
+    for (i, place) in front.iter_mut().enumerate() {
+        // `u16` has no `From<usize>`; `i` is below the count.
+        *place = value_at(store, taker, first + i as u16);
     }
 }
 
 /// What the transaction reads at a key.
 fn value_at<S: VersionStore>(store: &S, taker: &Record, key: u16) -> u64
-    ensures { result ≡ shown (S.VersionStore.meaning store.now) (view taker.now) key }
+    ensures { result ≡ shown (S.meaning store.now) (view taker.now) key }
 {
     match taker.state {
-        State::Updater => match taker.writes.value(key) {
-            Some(own) => own,
-            None => value_in(store.newest(key)),
-        },
+        State::Updater => taker
+            .writes
+            .value(key)
+            .unwrap_or_else(|| value_in(store.newest(key))),
         State::Free | State::Reader => value_in(store.as_of(key, taker.start)),
     }
 }
 
-/// The value that a store answers.
+/// The value that a store answers. The key of a read is in the table, so the store does not refuse it.
 fn value_in(version: Result<(u32, u64), StoreFault>) -> u64
     ensures { result ≡ value_in version }
 {
-    match version {
-        Ok((_, value)) => value,
-        // The key of a read is in the table, so the store does not refuse it.
-        Err(_) => 0,
-    }
+    version.map_or(0, |(_, value)| value)
 }

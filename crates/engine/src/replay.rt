@@ -10,6 +10,7 @@ use validation::validator::Validator;
 use versions::store::VersionStore;
 
 /// A call to be made with a buffer of so many places, and beside it the answer.
+/// The caller gives the place of each answer, since there is no heap; what stands in it before is not read.
 #[derive(Clone, Copy)]
 pub struct Request {
     pub call: Call,
@@ -19,6 +20,7 @@ pub struct Request {
 
 /// Makes one new engine and all the calls on it, in their order, and gives the engine back.
 /// The buffers lie one after another, each as long as its request says, while there are places.
+// One slice for them all: of buffers lent inside the requests a caller's proof would know the lengths alone afterwards.
 pub fn replay<S: VersionStore + Drop, V: Validator + Drop>(
     last: u32,
     store: S,
@@ -26,9 +28,10 @@ pub fn replay<S: VersionStore + Drop, V: Validator + Drop>(
     requests: &mut [Request],
     buffers: &mut [u64],
 ) -> Engine<S, V>
-    ensures { Replayed S.VersionStore.meaning V.Validator.meaning (limits_of (last_of last (S.VersionStore.meaning store) (V.Validator.meaning validator)) (S.VersionStore.meaning store) (V.Validator.meaning validator)) requests.old requests.new buffers.old buffers.new result }
+    ensures { Replayed S.meaning V.meaning (limits_of (last_of last (S.meaning store) (V.meaning validator)) (S.meaning store) (V.meaning validator)) requests.old requests.new buffers.old buffers.new result }
 {
     let mut engine = Engine::make(last, store, validator);
+    // By index: of a slice that a loop hands on by `split_at_mut` no proof knows what was written.
     let mut start = 0;
     for request in requests.iter_mut() {
         let end = start + request.room.min(buffers.len() - start);

@@ -1,14 +1,23 @@
 // Slips: a transaction in hand, which has to be ended.
 ghost use Rattle.std.specs.Prelude.{◌≡◌, ◌<◌, IfOk};
+ghost use Rattle.ledger.specs.declared.Kind.{Kind};
 ghost use Rattle.ledger.specs.declared.Kind.TheVariants.{Reader, Updater};
 ghost use Rattle.ledger.specs.declared.Call.TheVariants.{Begin, Read, Write, Commit, Abort};
 ghost use Rattle.ledger.specs.declared.Answer.TheVariants.{Began, Read as ReadDone, Wrote, Ended, Aborted};
-ghost use Rattle.engine.specs.Serves.{Serves, ServesBare, told};
+ghost use Rattle.engine.specs.Serves.{Serves, ServesBare, Idle, told};
 
 use crate::engine::Engine;
 use ledger::{Fault, Kind, Verdict};
+use std::marker::PhantomData;
 use validation::validator::Validator;
 use versions::store::VersionStore;
+
+/// What a slip lets its holder do: to act in a transaction of this kind.
+pub trait Leave {
+    ghost KIND: { Kind };
+
+    const KIND: Kind;
+}
 
 /// What a reader's slip allows.
 #[derive(Clone, Copy)]
@@ -18,14 +27,26 @@ pub struct Reading {}
 #[derive(Clone, Copy)]
 pub struct Updating {}
 
-/// Leave to act in one transaction. It goes only to the commit or the abort that ends it:
-/// a slip of no transaction could be let go, and no call gives one.
-pub struct Slip<K: Copy> {
-    handle: u32,
-    leave: K,
+impl Leave for Reading {
+    ghost KIND = { Reader };
+
+    const KIND: Kind = Kind::Reader;
 }
 
-impl<K: Copy> Drop for Slip<K> {
+impl Leave for Updating {
+    ghost KIND = { Updater };
+
+    const KIND: Kind = Kind::Updater;
+}
+
+/// Leave to act in one transaction. It goes only to the commit or the abort that ends it:
+/// a slip of no transaction could be let go, and no call gives one.
+pub struct Slip<K> {
+    handle: u32,
+    leave: PhantomData<K>,
+}
+
+impl<K> Drop for Slip<K> {
     fn drop(self)
         requires { self.handle ≡ 0 }
     {
@@ -36,7 +57,7 @@ impl<K: Copy> Drop for Slip<K> {
     }
 }
 
-impl<K: Copy> Slip<K> {
+impl<K> Slip<K> {
     pub fn handle(&self) -> u32
         ensures { result ≡ self.now.handle }
     {
@@ -52,57 +73,52 @@ impl<K: Copy> Slip<K> {
 }
 
 impl<S: VersionStore, V: Validator> Engine<S, V> {
-    pub fn begin_reader(&mut self) -> Result<Slip<Reading>, Fault>
-        ensures serves { ServesBare S.VersionStore.meaning V.Validator.meaning self.old self.new (Begin Reader) (told (λ s. Began s.handle) result) }
+    /// Begins a transaction of the slip's kind.
+    pub fn begin_slip<K: Leave>(&mut self) -> Result<Slip<K>, Fault>
+        ensures serves { ServesBare S.meaning V.meaning self.old self.new (Begin K.KIND) (told (λ s. Began s.handle) result) }
         ensures held { IfOk result (λ s. 0 < s.handle) }
+        ensures idle { Idle self.old self.new }
     {
-        let handle = self.begin(Kind::Reader)?;
+        let handle = self.begin(K::KIND)?;
         Ok(Slip {
             handle,
-            leave: Reading {},
+            leave: PhantomData,
         })
     }
 
-    pub fn begin_updater(&mut self) -> Result<Slip<Updating>, Fault>
-        ensures serves { ServesBare S.VersionStore.meaning V.Validator.meaning self.old self.new (Begin Updater) (told (λ s. Began s.handle) result) }
-        ensures held { IfOk result (λ s. 0 < s.handle) }
-    {
-        let handle = self.begin(Kind::Updater)?;
-        Ok(Slip {
-            handle,
-            leave: Updating {},
-        })
-    }
-
-    pub fn read_under<K: Copy>(
+    pub fn read_under<K>(
         &mut self,
         slip: &Slip<K>,
         first: u16,
         count: u16,
         buffer: &mut [u64],
     ) -> Result<(), Fault>
-        ensures { Serves S.VersionStore.meaning V.Validator.meaning self.old self.new (Read slip.now.handle first count) buffer.old (told (λ _. ReadDone) result) buffer.new }
+        ensures serves { Serves S.meaning V.meaning self.old self.new (Read slip.now.handle first count) buffer.old (told (λ _. ReadDone) result) buffer.new }
+        ensures idle { Idle self.old self.new }
     {
         self.read(slip.handle, first, count, buffer)
     }
 
     /// Only an updater's slip lets it write.
     pub fn write_under(&mut self, slip: &Slip<Updating>, key: u16, value: u64) -> Result<(), Fault>
-        ensures { ServesBare S.VersionStore.meaning V.Validator.meaning self.old self.new (Write slip.now.handle key value) (told (λ _. Wrote) result) }
+        ensures serves { ServesBare S.meaning V.meaning self.old self.new (Write slip.now.handle key value) (told (λ _. Wrote) result) }
+        ensures idle { Idle self.old self.new }
     {
         self.write(slip.handle, key, value)
     }
 
     /// Takes the slip, even if it refuses.
-    pub fn commit_under<K: Copy>(&mut self, slip: Slip<K>) -> Result<Verdict, Fault>
-        ensures { ServesBare S.VersionStore.meaning V.Validator.meaning self.old self.new (Commit slip.handle) (told Ended result) }
+    pub fn commit_under<K>(&mut self, slip: Slip<K>) -> Result<Verdict, Fault>
+        ensures serves { ServesBare S.meaning V.meaning self.old self.new (Commit slip.handle) (told Ended result) }
+        ensures idle { Idle self.old self.new }
     {
         self.commit(slip.spent())
     }
 
     /// Takes the slip, even if it refuses.
-    pub fn abort_under<K: Copy>(&mut self, slip: Slip<K>) -> Result<(), Fault>
-        ensures { ServesBare S.VersionStore.meaning V.Validator.meaning self.old self.new (Abort slip.handle) (told (λ _. Aborted) result) }
+    pub fn abort_under<K>(&mut self, slip: Slip<K>) -> Result<(), Fault>
+        ensures serves { ServesBare S.meaning V.meaning self.old self.new (Abort slip.handle) (told (λ _. Aborted) result) }
+        ensures idle { Idle self.old self.new }
     {
         self.abort(slip.spent())
     }

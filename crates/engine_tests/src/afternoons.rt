@@ -1,14 +1,14 @@
-use crate::told::told;
+use crate::calls::{ENTRY, VERSION};
 use chain::cell::Cell;
 use chain::store::ChainStore;
 use engine::replay::{Request, replay};
 use ledger::{Answer, Call, Fault, Kind, Verdict};
 use std::process::Abort;
-use validation::recent::{Entry, RecentList};
+use validation::recent::RecentList;
 use validation::table::StampTable;
 use validation::validator::Validator;
 use versions::log::LogStore;
-use versions::store::{Version, VersionStore};
+use versions::store::VersionStore;
 
 fn ask(call: Call, room: usize) -> Request {
     Request {
@@ -55,13 +55,8 @@ fn report<S: VersionStore + Drop, V: Validator + Drop>(rt: &impl Abort, store: S
     ];
     let mut buffers = [9; 10];
     let _ = replay(4_294_967_294, store, validator, &mut requests, &mut buffers);
-    for (i, request) in requests.iter().enumerate() {
-        assert_eq!(rt; told(request.answer), told(answers[i]));
-    }
-    let left = [0, 9, 0, 0, 9, 9, 54, 9, 9, 9];
-    for (i, place) in buffers.iter().enumerate() {
-        assert_eq!(rt; *place, left[i]);
-    }
+    assert_eq!(rt; requests.map(|request| request.answer), answers);
+    assert_eq!(rt; buffers, [0, 9, 0, 0, 9, 9, 54, 9, 9, 9]);
 }
 
 // Two cells: without a reader a reclaim makes room, with one it does not.
@@ -110,20 +105,11 @@ fn handicaps<S: VersionStore + Drop, V: Validator + Drop>(rt: &impl Abort, store
     ];
     let mut buffers = [9; 1];
     let _ = replay(100, store, validator, &mut requests, &mut buffers);
-    for (i, request) in requests.iter().enumerate() {
-        assert_eq!(rt; told(request.answer), told(answers[i]));
-    }
-    assert_eq!(rt; buffers[0], 23);
+    assert_eq!(rt; requests.map(|request| request.answer), answers);
+    assert_eq!(rt; buffers, [23]);
 }
 
-const VERSION: Version = Version {
-    key: 7,
-    stamp: 7,
-    value: 7,
-};
-
-const ENTRY: Entry = Entry { key: 7, stamp: 7 };
-
+// Each test lends its own memory to a pair of a store and a validator, so the pairs are not one function.
 #[test]
 fn a_report_on_log_and_stamps(rt: HostRuntime) {
     let mut cells = [VERSION; 8];

@@ -1,20 +1,12 @@
-use crate::told::{begins, says, sees};
+use crate::calls::{ENTRY, VERSION, begins, says, sees};
 use engine::engine::Engine;
 use ledger::{Answer, Call, Fault, Kind, Verdict};
 use std::process::Abort;
-use validation::recent::{Entry, RecentList};
+use validation::recent::RecentList;
 use validation::table::StampTable;
 use validation::validator::Validator;
 use versions::log::LogStore;
-use versions::store::{Version, VersionStore};
-
-const VERSION: Version = Version {
-    key: 7,
-    stamp: 7,
-    value: 7,
-};
-
-const ENTRY: Entry = Entry { key: 7, stamp: 7 };
+use versions::store::VersionStore;
 
 fn seventeen<S: VersionStore + Drop, V: Validator + Drop>(rt: &impl Abort, store: S, validator: V) {
     let mut engine = Engine::make(100, store, validator);
@@ -62,7 +54,7 @@ fn ranges<S: VersionStore + Drop, V: Validator + Drop>(rt: &impl Abort, store: S
     }
     let mut buffer = [9, 9];
     let full = engine.read(1, 32, 1, &mut buffer);
-    assert!(rt; refused(full, 13, 1));
+    refuses(rt, full, Fault::ReadListFull(1), 13, 1);
     assert_eq!(rt; buffer[0], 9);
     sees(rt, &mut engine, 1, 0, 0);
     says(rt, &mut engine, Call::Read(1, 40, 0), Answer::Read);
@@ -80,11 +72,10 @@ fn ranges<S: VersionStore + Drop, V: Validator + Drop>(rt: &impl Abort, store: S
     );
 }
 
-fn refused(answer: Result<(), Fault>, number: u8, place: u64) -> bool {
-    match answer {
-        Ok(()) => false,
-        Err(fault) => fault.number() == number && fault.place() == place,
-    }
+/// Checks that an answer refuses with this fault, and the number and place that it is reported by.
+fn refuses(rt: &impl Abort, answer: Result<(), Fault>, fault: Fault, number: u8, place: u64) {
+    assert_eq!(rt; answer, Err(fault));
+    assert_eq!(rt; (fault.number(), fault.place()), (number, place));
 }
 
 #[test]
@@ -105,7 +96,7 @@ fn keys<S: VersionStore + Drop, V: Validator + Drop>(rt: &impl Abort, store: S, 
         says(
             rt,
             &mut engine,
-            Call::Write(1, key, key as u64),
+            Call::Write(1, key, u64::from(key)),
             Answer::Wrote,
         );
     }
@@ -199,10 +190,12 @@ fn idles<S: VersionStore + Drop, V: Validator + Drop>(
     last: u32,
     store: S,
     validator: V,
+    fault: Fault,
     number: u8,
     place: u64,
 ) {
-    assert!(rt; refused(Engine::check(last, &store, &validator), number, place));
+    let checked = Engine::check(last, &store, &validator);
+    refuses(rt, checked, fault, number, place);
     let mut engine = Engine::make(last, store, validator);
     says(
         rt,
@@ -228,6 +221,7 @@ fn without_a_last_tick_there_is_no_engine(rt: HostRuntime) {
         0,
         LogStore::make(40, &mut cells),
         StampTable::make(40, 1, &mut stamps),
+        Fault::LastTick(0),
         2,
         0,
     );
@@ -242,6 +236,7 @@ fn store_and_validator_have_the_same_keys(rt: HostRuntime) {
         9,
         LogStore::make(40, &mut cells),
         StampTable::make(41, 1, &mut stamps),
+        Fault::NotFresh,
         8,
         0,
     );
@@ -252,8 +247,16 @@ fn an_engine_begins_with_an_empty_store(rt: HostRuntime) {
     let mut cells = [VERSION; 8];
     let mut stamps = [7; 40];
     let mut store = LogStore::make(40, &mut cells);
-    assert!(rt; store.add(3, 1, 54).is_ok());
-    idles(&rt, 9, store, StampTable::make(40, 1, &mut stamps), 8, 0);
+    assert_eq!(rt; store.add(3, 1, 54), Ok(()));
+    idles(
+        &rt,
+        9,
+        store,
+        StampTable::make(40, 1, &mut stamps),
+        Fault::NotFresh,
+        8,
+        0,
+    );
 }
 
 #[test]
@@ -262,5 +265,13 @@ fn an_engine_begins_without_a_stamp(rt: HostRuntime) {
     let mut stamps = [7; 40];
     let mut validator = StampTable::make(40, 1, &mut stamps);
     assert!(rt; validator.note(3, 1).is_ok());
-    idles(&rt, 9, LogStore::make(40, &mut cells), validator, 8, 0);
+    idles(
+        &rt,
+        9,
+        LogStore::make(40, &mut cells),
+        validator,
+        Fault::NotFresh,
+        8,
+        0,
+    );
 }

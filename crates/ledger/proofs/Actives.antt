@@ -35,7 +35,7 @@ pub some_same : {X : Type 0} (x y : X) (o : Option X) → o ≡ Some x → o ≡
 some_same x y o p q = cc
 
 pub never : {P : Type 0} {X : Type 0} (x : X) (o : Option X) → o ≡ None → o ≡ Some x → P
-never x o p q = let z : ◌≡◌ {A = ℕ} 0 1 = cc in absurd (omega arith)
+never x o p q = cc
 
 -- what holds of each holds of the one that is found
 pub all_found : (P : Transaction → Type 0) (ts : List Transaction) (h : ℕ) (t : Transaction) → AllByRecursion P ts → found ts h ≡ Some t → P t × (t.start ≡ h)

@@ -1,4 +1,5 @@
 -- Every history that the ledger tells is serial.
+use Rattle.std.proofs.Math.Bool.{and-false}
 use Rattle.std.proofs.Common.{◌≡◌, ℕ, zero, suc, ◌+◌, ◌<◌, ◌≤◌, Bool, true, false, cond, ◌&&◌, eqb, List, [], ◌∷◌, ◌++◌, map, length, take, drop, Some, None, Option, sym, refl, ap, ◌∙◌, subst, inl, inr, ⊎_elim, arith}
 use mathlib.Core.Path.{fun_ext}
 use Rattle.std.proofs.lemmas.List.{append-nil, take_at, length-map}
@@ -38,12 +39,8 @@ told s c a b = record { acts = λ h. s.acts h ++ act_of h c (accepted a); saw = 
 abbrev pub story : List Made → Story
 story ms = record { acts = λ h. acts h ms; saw = λ h. saw h ms; stands = stands_at ms }
 
-and_false : (b : Bool) → (b && false) ≡ false
-and_false true = refl
-and_false false = refl
-
 when_false : {X : Type 0} (b : Bool) (x : X) → when (b && false) x ≡ []
-when_false b x = rw (and_false b)
+when_false b x = rw (and-false b)
 
 pub act_none : (h : ℕ) (c : Call) → act_of h c false ≡ []
 act_none h (Begin k) = refl
@@ -151,9 +148,9 @@ inv n [] t = record {
   first = refl;
   later = λ t lt. refl;
   silent = λ h lt. (refl, refl);
-  placed = λ t h e. let z : ◌≡◌ {A = ℕ} 0 1 = cc in absurd (omega arith);
+  placed = λ t h e. cc;
   value = λ t k le. let z : t ≡ 0 = omega arith in subst (λ x. 0 ≡ tab (story []) x k) (sym z) refl;
-  opened = λ h u e. let z : ◌≡◌ {A = ℕ} 0 1 = cc in absurd (omega arith);
+  opened = λ h u e. cc;
 }
 inv n (m ∷ ms) t =
     let o = step (after n ms) m.call m.given in

@@ -85,14 +85,14 @@ idles l r z c b = let i = idle r z in idle_step l z i.0 i.1 c b
 
 refusal : {l : Ledger} {b : List ℕ} {c : Call} {o : Outcome} → Way l b c o → (f : Fault) → o.answer ≡ Refused f → (o.ledger ≡ l) × (o.buffer ≡ b)
 refusal (refusing g) f e = (refl, refl)
-refusal (beginning few more) f e = let z : ◌≡◌ {A = ℕ} 0 1 = cc in absurd (omega arith)
-refusal (reading t g inside fits room) f e = let z : ◌≡◌ {A = ℕ} 0 1 = cc in absurd (omega arith)
-refusal (writing t g upd inside room) f e = let z : ◌≡◌ {A = ℕ} 0 1 = cc in absurd (omega arith)
-refusal (closing t g r) f e = let z : ◌≡◌ {A = ℕ} 0 1 = cc in absurd (omega arith)
-refusal (losing t g r j why) f e = let z : ◌≡◌ {A = ℕ} 0 1 = cc in absurd (omega arith)
-refusal (committing t g r j clear' more room) f e = let z : ◌≡◌ {A = ℕ} 0 1 = cc in absurd (omega arith)
-refusal (aborting t g) f e = let z : ◌≡◌ {A = ℕ} 0 1 = cc in absurd (omega arith)
-refusal reclaiming f e = let z : ◌≡◌ {A = ℕ} 0 1 = cc in absurd (omega arith)
+refusal (beginning few more) f e = cc
+refusal (reading t g inside fits room) f e = cc
+refusal (writing t g upd inside room) f e = cc
+refusal (closing t g r) f e = cc
+refusal (losing t g r j why) f e = cc
+refusal (committing t g r j clear' more room) f e = cc
+refusal (aborting t g) f e = cc
+refusal reclaiming f e = cc
 
 pub refusals : RefusalLaw
 refusals l c b f e = refusal (way l c b) f e

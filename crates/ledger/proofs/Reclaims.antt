@@ -85,8 +85,8 @@ module _ (l : Ledger) (vs : List Version) (n : ℕ) (e : tidy (horizon l) l.vers
       go : (x y : Bool) → x ≡ y → too_full l (length t.writes) ≡ x → Agree (cond x (ended l b t.start (Full (length t.writes) (free l))) (record { answer = Ended (Committed (l.clock + 1)); buffer = b; ledger = installed l t })) (cond y (ended (like l vs n) b t.start (Full (length t.writes) (free (like l vs n)))) (record { answer = Ended (Committed (l.clock + 1)); buffer = b; ledger = installed (like l vs n) t }))
       go true true s f = agree_full b t (room f)
       go false false s f = agree_committed b t
-      go true false s f = let z : ◌≡◌ {A = ℕ} 0 1 = cc in absurd (omega arith)
-      go false true s f = let z : ◌≡◌ {A = ℕ} 0 1 = cc in absurd (omega arith)
+      go true false s f = cc
+      go false true s f = cc
 
   agree_judged : (b : List ℕ) (t : Transaction) → FreeSame (length t.writes) → Agree (judged l b t) (judged (like l vs n) b t)
   agree_judged b t room = subst (λ o. Agree (judged l b t) (judged_by (like l vs n) b t o)) (clash_same l.versions vs (bare_tidy (horizon l) l.versions vs e) l.limits.granule t.start (read_keys t.reads)) (agree_judged_by b t room _)
@@ -161,7 +161,7 @@ agree_step {l = l} (alike vs n e) (Read h k m) b r = agree_read l vs n e b h k m
 agree_step {l = l} (alike vs n e) (Write h k x) b r = agree_write l vs n e b h k x (found l.active h)
 agree_step {l = l} (alike vs n e) (Commit h) b r = agree_commit l vs n e b h (found l.active h)
 agree_step {l = l} (alike vs n e) (Abort h) b r = agree_abort l vs n e b h (found l.active h)
-agree_step {l = l} (alike vs n e) Reclaim b r = let z : ◌≡◌ {A = ℕ} 0 1 = cc in absurd (omega arith)
+agree_step {l = l} (alike vs n e) Reclaim b r = cc
 
 pub alike_reclaimed : {l m : Ledger} → Alike l m → Alike (reclaimed l) m
 alike_reclaimed {l = l} (alike vs n e) = alike vs n (tidy_again (horizon l) l.versions ∙ e)
@@ -172,11 +172,11 @@ verdicts l r h b = (agree_step (alike_reclaimed {l = l} {m = l} (alike l.version
 -- Whole histories
 
 reclaim_is : (c : Call) → is_reclaim c ≡ true → c ≡ Reclaim
-reclaim_is (Begin k) e = let z : ◌≡◌ {A = ℕ} 0 1 = cc in absurd (omega arith)
-reclaim_is (Read h k m) e = let z : ◌≡◌ {A = ℕ} 0 1 = cc in absurd (omega arith)
-reclaim_is (Write h k x) e = let z : ◌≡◌ {A = ℕ} 0 1 = cc in absurd (omega arith)
-reclaim_is (Commit h) e = let z : ◌≡◌ {A = ℕ} 0 1 = cc in absurd (omega arith)
-reclaim_is (Abort h) e = let z : ◌≡◌ {A = ℕ} 0 1 = cc in absurd (omega arith)
+reclaim_is (Begin k) e = cc
+reclaim_is (Read h k m) e = cc
+reclaim_is (Write h k x) e = cc
+reclaim_is (Commit h) e = cc
+reclaim_is (Abort h) e = cc
 reclaim_is Reclaim e = refl
 
 -- with the reclaims struck out, the history is told too
@@ -199,8 +199,8 @@ made_same x y a b c d =
 -- what was asked tells the answers and the buffers left
 pub told_same : (n : Limits) (xs ys : List Made) → Told n xs → Told n ys → asked xs ≡ asked ys → xs ≡ ys
 told_same n [] [] p q e = refl
-told_same n [] (y ∷ ys) p q e = let z : ◌≡◌ {A = ℕ} 0 1 = cc in absurd (omega arith)
-told_same n (x ∷ xs) [] p q e = let z : ◌≡◌ {A = ℕ} 0 1 = cc in absurd (omega arith)
+told_same n [] (y ∷ ys) p q e = cc
+told_same n (x ∷ xs) [] p q e = cc
 told_same n (x ∷ xs) (y ∷ ys) p q e =
     let parts = cons_parts (x.call, x.given) (y.call, y.given) (asked xs) (asked ys) e in
     let rest = parts.1 in

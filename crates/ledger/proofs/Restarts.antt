@@ -1,4 +1,6 @@
 -- A commit is restarted exactly where the history says.
+use Rattle.std.proofs.Math.Bool.{or_assoc, or-false}
+use Rattle.std.proofs.Math.Nat.{zero-max}
 use Rattle.std.proofs.Common.{◌≡◌, ℕ, ◌+◌, ◌<◌, ◌≤◌, max, Bool, true, false, cond, not, ◌&&◌, ◌||◌, eqb, ltb, List, [], ◌∷◌, ◌++◌, length, Some, None, Option, sym, refl, ap, ◌∙◌, subst, ⊎_elim, arith}
 use Rattle.std.specs.List.{AllByRecursion}
 use Rattle.std.proofs.lemmas.List.{append-nil, append_assoc}
@@ -75,7 +77,7 @@ first_joined f u k n upd = go (joins u k n) refl
     go : (j : Bool) → joins u k n ≡ j → or_else (first_of f (read_keys u.reads)) (first_of f (keys_from k n)) ≡ first_of f (read_keys (cond j (record { start = u.start; kind = u.kind; reads = u.reads ++ (record { first = k; count = n } ∷ []); writes = u.writes }) u).reads)
     go true e = sym (first_append f (read_keys u.reads) (keys_from k n)) ∙ ap (λ ks. first_of f (read_keys u.reads ++ ks)) (sym (append-nil (keys_from k n))) ∙ ap (first_of f) (sym (read_keys_push u.reads (record { first = k; count = n })))
     go false e =
-        let same : joined u k n ≡ u = cond_both (joins u k n) _ u (λ x. x ≡ u) (λ q. let z : ◌≡◌ {A = ℕ} 0 1 = cc in absurd (omega arith)) (λ _. refl) in
+        let same : joined u k n ≡ u = cond_both (joins u k n) _ u (λ x. x ≡ u) (λ q. cc) (λ _. refl) in
         absorbed (first_of f (read_keys u.reads)) (first_of f (keys_from k n)) (λ q.
         first_none f (keys_from k n) (joined_covers (λ j. f j ≡ None) u k n upd (subst (λ x. AllByRecursion (λ j. f j ≡ None) (read_keys x.reads)) (sym same) (none_first f (read_keys u.reads) q))).1)
 
@@ -85,14 +87,6 @@ keys_read_append : (xs ys : List Act) → keys_read (xs ++ ys) ≡ keys_read xs 
 keys_read_append [] ys = refl
 keys_read_append (looks k n ∷ xs) ys = ap (λ ks. keys_from k n ++ ks) (keys_read_append xs ys) ∙ sym (append_assoc (keys_from k n) (keys_read xs) (keys_read ys))
 keys_read_append (sets k x ∷ xs) ys = keys_read_append xs ys
-
-or_assoc : (a b c : Bool) → ((a || b) || c) ≡ (a || (b || c))
-or_assoc true b c = refl
-or_assoc false b c = refl
-
-or_false : (a : Bool) → (a || false) ≡ a
-or_false true = refl
-or_false false = refl
 
 sets_append : (g : ℕ → ℕ) (k : ℕ) (xs ys : List Act) → sets_in g k (xs ++ ys) ≡ (sets_in g k xs || sets_in g k ys)
 sets_append g k [] ys = refl
@@ -109,7 +103,7 @@ or_idem false true = refl
 or_idem false false = refl
 
 writes_written : (g : ℕ → ℕ) (k : ℕ) (ws : List Entry) (j x : ℕ) → (writes_in g k ws || eqb (g j) (g k)) ≡ writes_in g k (written ws j x)
-writes_written g k [] j x = sym (or_false (eqb (g j) (g k)))
+writes_written g k [] j x = sym (or-false (eqb (g j) (g k)))
 writes_written g k (w ∷ ws) j x = go (eqb w.key j) refl (writes_written g k ws j x)
   where
     go : (b : Bool) → eqb w.key j ≡ b → (writes_in g k ws || eqb (g j) (g k)) ≡ writes_in g k (written ws j x) → ((eqb (g w.key) (g k) || writes_in g k ws) || eqb (g j) (g k)) ≡ writes_in g k (cond b (record { key = j; value = x } ∷ ws) (w ∷ written ws j x))
@@ -154,13 +148,10 @@ no_updater h (Commit g) a e = refl
 no_updater h (Abort g) a e = refl
 no_updater h Reclaim a e = refl
 
-max_zero : (n : ℕ) → max 0 n ≡ n
-max_zero n = omega arith
-
 -- a call that begins nothing and commits nothing
 module _ (m : Made) (ms : List Made) (idle : began_at m.answer ≡ None) (lost : commit_of m.call m.answer ≡ None) where
   commit_same : (g : ℕ → ℕ) (k : ℕ) → commit_into g k (m ∷ ms) ≡ commit_into g k ms
-  commit_same g k = ap (λ o. max (tick_into g k o ms) (commit_into g k ms)) lost ∙ max_zero (commit_into g k ms)
+  commit_same g k = ap (λ o. max (tick_into g k o ms) (commit_into g k ms)) lost ∙ zero-max (commit_into g k ms)
 
   struck_same : (g : ℕ → ℕ) (k h : ℕ) → struck g k h (m ∷ ms) ≡ struck g k h ms
   struck_same g k h = ap (λ o. not (is_tick h o) && (into g k (commit_of m.call m.answer) ms || struck g k h ms)) idle ∙ ap (λ o. into g k o ms || struck g k h ms) lost
@@ -263,7 +254,7 @@ module _ (ms : List Made) (l : Ledger) (s : Said ms l) (d : Dated l) (fine : Sou
       let q = s.silent (l.clock + 1) (omega arith) in
       let none : acts (l.clock + 1) (begun ∷ ms) ≡ [] = append-nil (acts (l.clock + 1) ms) ∙ q.0 in
       record {
-        kind = ap (λ x. x || updater_in (l.clock + 1) ms) (starts kind) ∙ ap (λ x. not (is_reader kind) || x) q.1 ∙ or_false (not (is_reader kind));
+        kind = ap (λ x. x || updater_in (l.clock + 1) ms) (starts kind) ∙ ap (λ x. not (is_reader kind) || x) q.1 ∙ or-false (not (is_reader kind));
         reads = λ r f. ap (λ xs. first_of f (keys_read xs)) none;
         writes = λ γ k. ap (sets_in γ k) none;
         since = λ γ k.
@@ -276,12 +267,12 @@ module _ (ms : List Made) (l : Ledger) (s : Said ms l) (d : Dated l) (fine : Sou
     kind = ap (λ x. x || updater_in h ms) (starts_other kind h ne) ∙ o.kind;
     reads = λ r f. ap (λ xs. first_of f (keys_read xs)) (append-nil (acts h ms)) ∙ o.reads r f;
     writes = λ γ k. ap (sets_in γ k) (append-nil (acts h ms)) ∙ o.writes γ k;
-    since = λ γ k. ap (λ x. not x && (false || struck γ k h ms)) (ne_eqb (l.clock + 1) h ne) ∙ o.since γ k ∙ ap (ltb h) (sym (max_zero (commit_into γ k ms)));
+    since = λ γ k. ap (λ x. not x && (false || struck γ k h ms)) (ne_eqb (l.clock + 1) h ne) ∙ o.since γ k ∙ ap (ltb h) (sym (zero-max (commit_into γ k ms)));
   }
 
   said_begun : Said (begun ∷ ms) (opened l kind)
   said_begun = record {
-    stamps = λ γ k. s.stamps γ k ∙ sym (max_zero (commit_into γ k ms));
+    stamps = λ γ k. s.stamps γ k ∙ sym (zero-max (commit_into γ k ms));
     silent = λ h lt. let q = s.silent h (omega arith) in (append-nil (acts h ms) ∙ q.0, ap (λ x. x || updater_in h ms) (starts_other kind h (λ e. omega arith)) ∙ q.1);
     active = λ h t f. ⊎_elim
         (λ is'.
@@ -301,7 +292,7 @@ module _ (ms : List Made) (l m : Ledger) (s : Said ms l) (fine : Sound l) (b : L
 
   either : (h x : ℕ) (z y : Bool) → h < c → y ≡ ltb h x → (z || y) ≡ ltb h (max (cond z c 0) x)
   either h x true y lt e = sym (lt-ltb h (max c x) (omega arith))
-  either h x false y lt e = e ∙ ap (ltb h) (sym (max_zero x))
+  either h x false y lt e = e ∙ ap (ltb h) (sym (zero-max x))
 
   said_committed : Said (committed ∷ ms) (installed m u)
   said_committed = record {
@@ -328,12 +319,12 @@ said_after ms {l = l} {b = b} {o = o} fine d s (reading {h = g} {k = k} {n = n} 
     let w = s.active g u f in
     said_did ms l s (made (Read g k n) b o) refl refl g u f (looks k n) (λ h. push_cond (eqb g h) (acts h ms) (looks k n)) (λ t. joined t k n) (joined_keeps k n) fine
     (λ r p. ap (first_of p) (keys_read_append (acts g ms) (looks k n ∷ []) ∙ ap (λ ks. keys_read (acts g ms) ++ ks) (append-nil (keys_from k n))) ∙ first_append p (keys_read (acts g ms)) (keys_from k n) ∙ ap (λ x. or_else x (first_of p (keys_from k n))) (w.reads r p) ∙ first_joined p u k n r)
-    (λ γ j. sets_append γ j (acts g ms) (looks k n ∷ []) ∙ or_false (sets_in γ j (acts g ms)) ∙ w.writes γ j ∙ ap (writes_in γ j) (sym (joined_writes u k n)))
+    (λ γ j. sets_append γ j (acts g ms) (looks k n ∷ []) ∙ or-false (sets_in γ j (acts g ms)) ∙ w.writes γ j ∙ ap (writes_in γ j) (sym (joined_writes u k n)))
 said_after ms {l = l} {b = b} {o = o} fine d s (writing {h = g} {k = k} {x = x} u f upd inside room) =
     let w = s.active g u f in
     said_did ms l s (made (Write g k x) b o) refl refl g u f (sets k x) (λ h. push_cond (eqb g h) (acts h ms) (sets k x)) (λ t. wrote t k x) (writes_keeps k x) fine
     (λ r p. ap (first_of p) (keys_read_append (acts g ms) (sets k x ∷ []) ∙ append-nil (keys_read (acts g ms))) ∙ w.reads r p)
-    (λ γ j. sets_append γ j (acts g ms) (sets k x ∷ []) ∙ ap (λ z. sets_in γ j (acts g ms) || z) (or_false (eqb (γ k) (γ j))) ∙ ap (λ z. z || eqb (γ k) (γ j)) (w.writes γ j) ∙ writes_written γ j u.writes k x)
+    (λ γ j. sets_append γ j (acts g ms) (sets k x ∷ []) ∙ ap (λ z. sets_in γ j (acts g ms) || z) (or-false (eqb (γ k) (γ j))) ∙ ap (λ z. z || eqb (γ k) (γ j)) (w.writes γ j) ∙ writes_written γ j u.writes k x)
 said_after ms {l = l} {b = b} {o = o} fine d s (closing {h = h} t f r) = said_quiet (made (Commit h) b o) ms refl refl l o.ledger (λ g. refl) refl (λ g k. refl) (λ g u q. (found_without l.active h g u q).0) s
 said_after ms {l = l} {b = b} {o = o} fine d s (losing {h = h} {m = m} t f r j why) = said_quiet (made (Commit h) b o) ms refl (lost_none h why) l o.ledger (λ g. refl) (clock_judged j) (granule_judged j) (less_judged j t.start) s
 said_after ms {l = l} {b = b} fine d s (committing {h = h} {m = m} t f r j clear more room) = said_committed ms l m s fine b h t f j
@@ -404,7 +395,7 @@ found_accepted : (l : Ledger) (b : List ℕ) (h : ℕ) → accepted (step l (Com
 found_accepted l b h e = go (found l.active h) refl e
   where
     go : (o : Option Transaction) → found l.active h ≡ o → accepted (commit_by l b h o).answer ≡ true → (t : Transaction) × (found l.active h ≡ Some t)
-    go None f q = let z : ◌≡◌ {A = ℕ} 0 1 = cc in absurd (omega arith)
+    go None f q = cc
     go (Some t) f q = (t, f)
 
 pub restart_law : RestartLaw

@@ -211,7 +211,7 @@ read_keys_push [] r = refl
 read_keys_push (x ∷ rs) r = ap (λ ks. keys_from x.first x.count ++ ks) (read_keys_push rs r) ∙ sym (append_assoc (keys_from x.first x.count) (read_keys rs) (keys_from r.first r.count ++ []))
 
 any_covers : (P : ℕ → Type 0) (k n : ℕ) (rs : List Range) → any (same_range k n) rs ≡ true → AllByRecursion P (read_keys rs) → AllByRecursion P (keys_from k n)
-any_covers P k n [] e al = let z : ◌≡◌ {A = ℕ} 0 1 = cc in absurd (omega arith)
+any_covers P k n [] e al = cc
 any_covers P k n (r ∷ rs) e al = ⊎_elim
     (λ q. let p = and_parts (eqb r.first k) (eqb r.count n) q in
     subst (λ x. AllByRecursion P (keys_from x n)) (eqb-true _ _ p.0) (subst (λ y. AllByRecursion P (keys_from r.first y)) (eqb-true _ _ p.1) (all_left P (keys_from r.first r.count) (read_keys rs) al)))
@@ -234,9 +234,6 @@ joined_covers P u k n upd al = go (joins u k n) refl al
 eqb_sym : (a b : ℕ) → eqb a b ≡ eqb b a
 eqb_sym a b = ⊎_elim (λ e. eq-eqb a b e ∙ sym (eq-eqb b a (sym e))) (λ ne. ne_eqb a b ne ∙ sym (ne_eqb b a (λ e. ne (sym e)))) (cases_eq a b)
 
-clash_kinds : {P : Type 0} (b : Bool) → b ≡ true → b ≡ false → P
-clash_kinds b p q = let z : ◌≡◌ {A = ℕ} 0 1 = cc in absurd (omega arith)
-
 value_cond : (b : Bool) (x d : ℕ) (o : Option ℕ) → cond b x (unwrap_or o d) ≡ unwrap_or (cond b (Some x) o) d
 value_cond true x d o = refl
 value_cond false x d o = refl
@@ -244,7 +241,7 @@ value_cond false x d o = refl
 module _ (s : Story) (l : Ledger) (i : Inv s l) (g : ℕ) (u : Transaction) (f : found l.active g ≡ Some u) where
   -- an updater that is active stands nowhere
   stands_not : is_reader u.kind ≡ false → {P : Type 0} (t : ℕ) → s.stands (suc t) ≡ Some g → P
-  stands_not upd t e = clash_kinds (is_reader u.kind) ((i.placed t g e).alone u f).0 upd
+  stands_not upd t e = let reads = ((i.placed t g e).alone u f).0 in cc
 
   write_tab : (k x : ℕ) → is_reader u.kind ≡ false → (t : ℕ) → tab (did s g (sets k x) []) t ≡ tab s t
   write_tab k x upd t = tab_same (did s g (sets k x) []) s t (λ n v le. go n v (s.stands (suc n)) refl)
@@ -262,7 +259,7 @@ module _ (s : Story) (l : Ledger) (i : Inv s l) (g : ℕ) (u : Transaction) (f :
       (record {
         own = λ v j. ap (λ ac. run ac v j) mine ∙ ap (λ w. w j) (run_push (s.acts g) (sets k x) v) ∙ ap (cond (eqb j k) x) (o.own v j) ∙ value_cond (eqb j k) x (v j) (own_write j u.writes) ∙ ap (λ b. unwrap_or (cond b (Some x) (own_write j u.writes)) (v j)) (eqb_sym j k) ∙ ap (λ q. unwrap_or q (v j)) (sym (own_written j k x u.writes));
         saw = λ r v al. ap (λ ac. run_reads ac v) mine ∙ run_reads_push (s.acts g) (sets k x) v ∙ ap (λ ys. ys ++ []) (o.saw r v al) ∙ sym (saw_mine s l i g u f (sets k x) [] fn (writes_keeps k x));
-        none = λ r. clash_kinds (is_reader u.kind) r upd;
+        none = λ r. cc;
       })
 
   read_tab : (k n : ℕ) (xs : List (List ℕ)) (t : ℕ) → tab (did s g (looks k n) xs) t ≡ tab s t

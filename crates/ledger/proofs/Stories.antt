@@ -77,7 +77,7 @@ no_clash g vs s [] e = tt
 no_clash g vs s (k ∷ ks) e = go (ltb s (granule_stamp g k vs)) refl e (no_clash g vs s ks)
   where
     go : (b : Bool) → ltb s (granule_stamp g k vs) ≡ b → cond b (Some (k, granule_stamp g k vs)) (first_clash g vs s ks) ≡ None → (first_clash g vs s ks ≡ None → AllByRecursion (λ j. granule_stamp g j vs ≤ s) ks) → (granule_stamp g k vs ≤ s) × AllByRecursion (λ j. granule_stamp g j vs ≤ s) ks
-    go true d q ih = let z : ◌≡◌ {A = ℕ} 0 1 = cc in absurd (omega arith)
+    go true d q ih = cc
     go false d q ih = (ltb-false s (granule_stamp g k vs) d, ih q)
 
 pub own_written : (j k x : ℕ) (ws : List Entry) → own_write j (written ws k x) ≡ cond (eqb k j) (Some x) (own_write j ws)

@@ -35,7 +35,7 @@ tidy_changed l h f k y = tidy_moved l l.clock (changed l.active h f) y (omega ar
 
 gone : (p s : Bool) → (p ≡ false → s ≡ true) → (p && not s) ≡ false → s ≡ true
 gone true true f e = refl
-gone true false f e = let z : ◌≡◌ {A = ℕ} 0 1 = cc in absurd (omega arith)
+gone true false f e = cc
 gone false s f e = f refl
 
 tidy_reclaimed : (l : Ledger) → Tidy l → Tidy (reclaimed l)
@@ -62,7 +62,7 @@ tidy_installed l t y room =
     let m = installed l t in
     record {
       removed = All-append _ (stamped c t.writes) l.versions
-          (all_stamped (λ v. v.present ≡ false → dead m v ≡ true) c t.writes (all_each _ (λ w e. let z : ◌≡◌ {A = ℕ} 0 1 = cc in absurd (omega arith)) t.writes))
+          (all_stamped (λ v. v.present ≡ false → dead m v ≡ true) c t.writes (all_each _ (λ w e. cc) t.writes))
           (All-weaker _ (λ v. v.present ≡ false → dead m v ≡ true) (λ v q e. dead_later l m (record { news = stamped c t.writes; bares = refl; horizons = horizon_installed l t }) v (q e)) l.versions y.removed);
       cells = omega (arith, y.cells, room, count_stamped c t.writes l.versions);
       trims = all_kept_by _ _ l.active y.trims;

@@ -198,9 +198,9 @@ ended_gone l ts h g t s f e =
 
 ends_gone : {l : Ledger} {b : List ℕ} {c : Call} {o : Outcome} → Sound l → Way l b c o → (g : ℕ) → (ends_by g c && accepted o.answer) ≡ true → Gone o.ledger g
 ends_gone {c = c} s (refusing f) g e = let p = and_parts (ends_by g c) false e in let z : ◌≡◌ {A = ℕ} 0 1 = let q = p.1 in cc in absurd (omega arith)
-ends_gone s (beginning few more) g e = let z : ◌≡◌ {A = ℕ} 0 1 = cc in absurd (omega arith)
-ends_gone s (reading t f inside fits room) g e = let z : ◌≡◌ {A = ℕ} 0 1 = cc in absurd (omega arith)
-ends_gone s (writing t f upd inside room) g e = let z : ◌≡◌ {A = ℕ} 0 1 = cc in absurd (omega arith)
+ends_gone s (beginning few more) g e = cc
+ends_gone s (reading t f inside fits room) g e = cc
+ends_gone s (writing t f upd inside room) g e = cc
 ends_gone {l = l} s (closing {h = h} t f r) g e = ended_gone l l.active h g t s f (eqb-true h g (and_parts (eqb h g) true e).0)
 ends_gone {l = l} s (losing {h = h} {m = m} t f r j why) g e =
     let x = ended_gone l m.active h g t s f (eqb-true h g (and_parts (eqb h g) true e).0) in
@@ -209,7 +209,7 @@ ends_gone {l = l} s (committing {h = h} {m = m} t f r j clear more room) g e =
     let x = ended_gone l m.active h g t s f (eqb-true h g (and_parts (eqb h g) true e).0) in
     (subst (λ y. found (without m.active y) g ≡ None) (sym (found_start l.active h t f)) x.0, omega (arith, x.1, clock_judged j))
 ends_gone {l = l} s (aborting {h = h} t f) g e = ended_gone l l.active h g t s f (eqb-true h g (and_parts (eqb h g) true e).0)
-ends_gone s reclaiming g e = let z : ◌≡◌ {A = ℕ} 0 1 = cc in absurd (omega arith)
+ends_gone s reclaiming g e = cc
 
 pub time : TimeLaw
 time n ms told newer between older e b g h s t parts ended began first second =

@@ -1,5 +1,5 @@
 -- What every fault of the calls says: the layer that refuses, the number of the reason, and the place.
-use Rattle.std.specs.Prelude.{ℕ}
+use Rattle.std.specs.Prelude.{ℕ, List, ◌++◌, codes, decimal}
 use Rattle.ledger.specs.declared.Fault.{Fault}
 use Rattle.ledger.specs.declared.Fault.TheVariants.{LastTick, KeyOutside, ShortBuffer, NotFresh, NoTransaction, ReaderWrites, TooManyActive, ClockSpent, ReadListFull, WriteListFull}
 
@@ -33,3 +33,7 @@ reported (ClockSpent z) = layer_three 12 z
 reported (ReadListFull h) = layer_three 13 h
 -- the write list is full: the handle
 reported (WriteListFull h) = layer_three 14 h
+
+-- the three numbers with a space between, as "3 9 2"
+abbrev pub report_text : Report → List ℕ
+report_text r = decimal r.layer ++ (codes " " ++ (decimal r.number ++ (codes " " ++ decimal r.place)))

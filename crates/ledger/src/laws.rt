@@ -1,113 +1,81 @@
-// The laws of the calls, each the contract of a function: it is proved, or the crate is not.
+//! The laws of the calls, each the contract of a function: it is proved, or the crate is not.
 ghost use Rattle.ledger.specs.Examples.{Examples};
 ghost use Rattle.ledger.specs.Laws.{Law, SerialLaw, TimeLaw, ReclaimLaw, RestartLaw, FullLaw, TickLaw, OrderLaw, DeathLaw, RefusalLaw, IdleLaw, PastLaw, VerdictLaw, StampLaw, BlindLaw};
 
-// The worked examples.
-pub fn examples_hold() -> u8
+/// The worked examples.
+pub fn examples_hold()
     ensures { Examples }
-{
-    0
-}
+{}
 
-// Every history is one of transactions that run singly.
-pub fn histories_are_serial() -> u8
+/// Every history is one of transactions that run singly.
+pub fn histories_are_serial()
     ensures { SerialLaw }
-{
-    0
-}
+{}
 
-// One that ended before another began stands earlier.
-pub fn order_keeps_time() -> u8
+/// One that ended before another began stands earlier.
+pub fn order_keeps_time()
     ensures { TimeLaw }
-{
-    0
-}
+{}
 
-// Reclaims struck out or put in change no other answer.
-pub fn reclaims_move_nothing() -> u8
+/// Reclaims struck out or put in change no other answer.
+pub fn reclaims_move_nothing()
     ensures { ReclaimLaw }
-{
-    0
-}
+{}
 
-// A commit is restarted exactly where another, committed since, wrote what it read.
-pub fn restarts_are_told_by_the_history() -> u8
+/// A commit is restarted exactly where another, committed since, wrote what it read.
+pub fn restarts_are_told_by_the_history()
     ensures { RestartLaw }
-{
-    0
-}
+{}
 
-// A commit is full exactly where the live versions and its writes exceed the cells.
-pub fn full_only_if_it_must_be() -> u8
+/// A commit is full exactly where the live versions and its writes exceed the cells.
+pub fn full_only_if_it_must_be()
     ensures { FullLaw }
-{
-    0
-}
+{}
 
-// All of these at once, for the engine to cite.
-pub fn histories_are_lawful() -> u8
+/// All of these at once, for the engine to cite.
+pub fn histories_are_lawful()
     ensures { Law }
-{
-    0
-}
+{}
 
-// Begins and commits draw the ticks from 1 to the clock, each once.
-pub fn ticks_are_drawn_in_turn() -> u8
+/// Begins and commits draw the ticks from 1 to the clock, each once.
+pub fn ticks_are_drawn_in_turn()
     ensures { TickLaw }
-{
-    0
-}
+{}
 
-// Starts and stamps are apart and drawn before, and a removed version is dead.
-pub fn every_ledger_is_orderly() -> u8
+/// Starts and stamps are apart and drawn before, and a removed version is dead.
+pub fn every_ledger_is_orderly()
     ensures { OrderLaw }
-{
-    0
-}
+{}
 
-pub fn the_dead_stay_dead() -> u8
+pub fn the_dead_stay_dead()
     ensures { DeathLaw }
-{
-    0
-}
+{}
 
-// A refused call leaves ledger and buffer as they were.
-pub fn refusals_change_nothing() -> u8
+/// A refused call leaves ledger and buffer as they were.
+pub fn refusals_change_nothing()
     ensures { RefusalLaw }
-{
-    0
-}
+{}
 
-// A ledger without ticks, as that of an engine set up wrongly, refuses all but a reclaim of nothing.
-pub fn nothing_begins_without_ticks() -> u8
+/// A ledger without ticks, as that of an engine set up wrongly, refuses all but a reclaim of nothing.
+pub fn nothing_begins_without_ticks()
     ensures { IdleLaw }
-{
-    0
-}
+{}
 
-// The newest version below a tick that has passed never changes.
-pub fn the_past_stays() -> u8
+/// The newest version below a tick that has passed never changes.
+pub fn the_past_stays()
     ensures { PastLaw }
-{
-    0
-}
+{}
 
-// What a commit answers, full among it, does not depend on the reclaims made.
-pub fn verdicts_forget_reclaims() -> u8
+/// What a commit answers, full among it, does not depend on the reclaims made.
+pub fn verdicts_forget_reclaims()
     ensures { VerdictLaw }
-{
-    0
-}
+{}
 
-pub fn a_restart_names_a_later_stamp() -> u8
+pub fn a_restart_names_a_later_stamp()
     ensures { StampLaw }
-{
-    0
-}
+{}
 
-// An updater that read nothing is never restarted.
-pub fn who_reads_nothing_is_never_restarted() -> u8
+/// An updater that read nothing is never restarted.
+pub fn who_reads_nothing_is_never_restarted()
     ensures { BlindLaw }
-{
-    0
-}
+{}

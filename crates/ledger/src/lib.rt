@@ -1,9 +1,11 @@
-// The calls on the engine, their answers and their faults, as values.
-// What each call answers is defined in `specs/`; the laws of it are the contracts in `laws`.
+//! The calls on the engine, their answers and their faults, as values.
+//! What each call answers is defined in `specs/`; the laws of it are the contracts in `laws`.
 #![tactic(auto)]
 
-ghost use Rattle.std.specs.Prelude.{◌≡◌};
-ghost use Rattle.ledger.specs.Faults.{reported};
+ghost use Rattle.std.specs.Prelude.{◌≡◌, Some};
+ghost use Rattle.ledger.specs.Faults.{reported, report_text};
+
+use std::fmt;
 
 pub mod laws;
 
@@ -13,7 +15,7 @@ pub enum Kind {
     Updater,
 }
 
-#[derive(Clone, Copy)]
+#[derive(Clone, Copy, Debug, PartialEq)]
 pub enum Fault {
     LastTick(u32),
     KeyOutside(u16),
@@ -27,14 +29,14 @@ pub enum Fault {
     WriteListFull(u32),
 }
 
-// What a commit answers.
-#[derive(Clone, Copy)]
+/// What a commit answers.
+#[derive(Clone, Copy, Debug, PartialEq)]
 pub enum Verdict {
     Closed,
-    // The first key read that clashes, and the stamp of its granule.
+    /// The first key read that clashes, and the stamp of its granule.
     Restart(u16, u32),
     Spent,
-    // The number of writes, and the free cells.
+    /// The number of writes, and the free cells.
     Full(u16, u16),
     Committed(u32),
 }
@@ -42,16 +44,16 @@ pub enum Verdict {
 #[derive(Clone, Copy)]
 pub enum Call {
     Begin(Kind),
-    // Handle, first key and count.
+    /// Handle, first key and count.
     Read(u32, u16, u16),
-    // Handle, key and value.
+    /// Handle, key and value.
     Write(u32, u16, u64),
     Commit(u32),
     Abort(u32),
     Reclaim,
 }
 
-#[derive(Clone, Copy)]
+#[derive(Clone, Copy, Debug, PartialEq)]
 pub enum Answer {
     Began(u32),
     Read,
@@ -62,14 +64,14 @@ pub enum Answer {
     Refused(Fault),
 }
 
-// A run of keys.
-#[derive(Clone, Copy)]
+/// A run of keys.
+#[derive(Clone, Copy, PartialEq)]
 pub struct Range {
     pub first: u16,
     pub count: u16,
 }
 
-// A value to be written to a key.
+/// A value to be written to a key.
 #[derive(Clone, Copy)]
 pub struct Write {
     pub key: u16,
@@ -105,6 +107,7 @@ impl Fault {
     {
         match self {
             Fault::KeyOutside(key) => u64::from(key),
+            // Rust has no `From<usize> for u64`, and a length cannot fail to fit.
             Fault::ShortBuffer(length) => length as u64,
             Fault::NotFresh => 0,
             Fault::TooManyActive => 16,
@@ -114,5 +117,13 @@ impl Fault {
             | Fault::ReadListFull(handle)
             | Fault::WriteListFull(handle) => u64::from(handle),
         }
+    }
+}
+
+impl fmt::Display for Fault {
+    ghost output = { λ e. Some (report_text (reported e)) };
+
+    fn fmt<W: fmt::Write>(&self, f: &mut fmt::Formatter<W>) -> fmt::Result {
+        write!(f, "{} {} {}", self.layer(), self.number(), self.place())
     }
 }

@@ -1,7 +1,9 @@
 -- What one record more, or one record changed, makes of the active transactions.
-use Rattle.std.proofs.Common.{◌≡◌, ℕ, zero, suc, ◌<◌, ◌≤◌, min, Bool, true, false, cond, eqb, List, [], ◌∷◌, length, get_or, set, Some, sym, refl, ap, ◌∙◌, subst, arith}
-use Rattle.std.proofs.lemmas.Bool.{ne_eqb, eq-eqb, cond_both}
-use Rattle.std.specs.List.{AllByRecursion, slice_get}
+use Rattle.std.proofs.Common.{◌≡◌, ℕ, zero, suc, ◌<◌, ◌≤◌, min, Bool, true, false, cond, List, [], ◌∷◌, map, filter, length, get_or, set, Some, None, Option, MatchOption, sym, refl, ap, ◌∙◌, subst, arith, inl, inr}
+use Rattle.std.proofs.lemmas.Bool.{ne_eqb, eq-eqb, cond_both, true≢false}
+use Rattle.std.proofs.lemmas.Option.{get_or_from_slice_get, slice_get_cases}
+use Rattle.std.proofs.lemmas.List.Elements.{All-from_all_within, recursion_from_All}
+use Rattle.std.specs.List.{AllByRecursion, AllWithin, HoldsAt, slice_get, fold}
 use Rattle.ledger.specs.Calls.{without, changed}
 use Rattle.transaction_table.specs.Shuffle.{Shuffle, keep, swap, join}
 use Rattle.ledger.specs.Orderly.{Apart}
@@ -11,8 +13,8 @@ use Rattle.ledger.specs.Ledger.{Transaction, found, least_start}
 use Rattle.transaction_table.specs.declared.record.State.{State}
 use Rattle.transaction_table.specs.declared.record.State.TheVariants.{Free, Reader, Updater}
 use Rattle.transaction_table.specs.declared.record.Record.{Record}
-use Rattle.transaction_table.specs.View.{taken, view, active_of, kind_of, ranges, entries}
-use Rattle.transaction_table.specs.Places.{Here, of_kind, holds_kind}
+use Rattle.transaction_table.specs.View.{taken, view, active_of}
+use Rattle.transaction_table.specs.Places.{Here, Located, Vacant, of_kind, holds_kind}
 
 pub active_free : (r : Record) (rs : List Record) → taken r.state ≡ false → active_of (r ∷ rs) ≡ active_of rs
 active_free r rs e = rw e
@@ -20,21 +22,9 @@ active_free r rs e = rw e
 pub active_taken : (r : Record) (rs : List Record) → taken r.state ≡ true → active_of (r ∷ rs) ≡ view r ∷ active_of rs
 active_taken r rs e = rw e
 
-pub found_other : (r : Record) (rs : List Record) (h : ℕ) → (r.start ≡ h → ⊥) → found (active_of (r ∷ rs)) h ≡ found (active_of rs) h
-found_other r rs h ne = go (taken r.state) (ne_eqb r.start h ne)
-  where
-    go : (b : Bool) → eqb r.start h ≡ false → found (cond b (view r ∷ active_of rs) (active_of rs)) h ≡ found (active_of rs) h
-    go true e = rw e
-    go false e = refl
-
-pub not_free : (s : State) → (s ≡ Free → ⊥) → taken s ≡ true
-not_free Free ne = absurd (ne refl)
-not_free Reader ne = refl
-not_free Updater ne = refl
-
 -- a new transaction in a free place
 pub slots_open : (rs : List Record) (i : ℕ) (at r : Record) → slice_get rs i ≡ Some at → taken at.state ≡ false → taken r.state ≡ true → Shuffle (view r ∷ active_of rs) (active_of (set rs i r))
-slots_open [] i at r e free on = let z : ◌≡◌ {A = ℕ} 0 1 = cc in absurd (omega arith)
+slots_open [] i at r e free on = cc
 slots_open (u ∷ rs) zero at r e free on =
     let same : u ≡ at = cc in
     let off : taken u.state ≡ false = ap (λ x. taken x.state) same ∙ free in
@@ -47,7 +37,7 @@ slots_open (u ∷ rs) (suc i) at r e free on = go (taken u.state) (slots_open rs
 
 -- what holds of each active transaction holds of the one in a place
 slots_at : (P : Transaction → Type 0) (rs : List Record) (i : ℕ) (at : Record) → slice_get rs i ≡ Some at → taken at.state ≡ true → AllByRecursion P (active_of rs) → P (view at)
-slots_at P [] i at e on a = let z : ◌≡◌ {A = ℕ} 0 1 = cc in absurd (omega arith)
+slots_at P [] i at e on a = cc
 slots_at P (u ∷ rs) zero at e on a =
     let same : u ≡ at = cc in
     subst (λ x. P (view x)) same (subst (AllByRecursion P) (active_taken u rs (ap (λ x. taken x.state) same ∙ on)) a).0
@@ -100,7 +90,7 @@ slots_put (u ∷ rs) (suc i) h at r f e on has off is a = go (taken u.state) a (
 
 -- the transaction in a place is the one that is found
 pub slots_found : (rs : List Record) (i h : ℕ) (at : Record) → slice_get rs i ≡ Some at → taken at.state ≡ true → at.start ≡ h → Apart (active_of rs) → found (active_of rs) h ≡ Some (view at)
-slots_found [] i h at e on has a = let z : ◌≡◌ {A = ℕ} 0 1 = cc in absurd (omega arith)
+slots_found [] i h at e on has a = cc
 slots_found (u ∷ rs) zero h at e on has a =
     let same : u ≡ at = cc in
     let starts : u.start ≡ h = ap (λ x. x.start) same ∙ has in
@@ -118,33 +108,20 @@ length_active [] = omega arith
 length_active (r ∷ rs) = let h = length_active rs in cond_both (taken r.state) (view r ∷ active_of rs) (active_of rs) (λ us. length us ≤ suc (length rs)) (λ _. omega arith) (λ _. omega arith)
 
 pub slots_few : (rs : List Record) (i : ℕ) (at : Record) → slice_get rs i ≡ Some at → taken at.state ≡ false → length (active_of rs) < length rs
-slots_few [] i at e off = let z : ◌≡◌ {A = ℕ} 0 1 = cc in absurd (omega arith)
+slots_few [] i at e off = cc
 slots_few (u ∷ rs) zero at e off = let same : u ≡ at = cc in rw (active_free u rs (ap (λ x. taken x.state) same ∙ off)) (omega (arith, length_active rs))
 slots_few (u ∷ rs) (suc i) at e off = let h = slots_few rs i at e off in cond_both (taken u.state) (view u ∷ active_of rs) (active_of rs) (λ us. length us < suc (length rs)) (λ _. omega arith) (λ _. omega arith)
-
-pub nth_get_d : {X : Type 0} (xs : List X) (i : ℕ) (d : X) → i < length xs → slice_get xs i ≡ Some (get_or xs i d)
-nth_get_d [] i d lt = absurd (omega arith)
-nth_get_d (x ∷ xs) zero d lt = refl
-nth_get_d (x ∷ xs) (suc i) d lt = nth_get_d xs i d (omega arith)
-
-pub nth_at : {X : Type 0} (xs : List X) (i : ℕ) (x d : X) → slice_get xs i ≡ Some x → get_or xs i d ≡ x
-nth_at [] i x d e = let z : ◌≡◌ {A = ℕ} 0 1 = cc in absurd (omega arith)
-nth_at (y ∷ xs) zero x d e = cc
-nth_at (y ∷ xs) (suc i) x d e = nth_at xs i x d e
 
 -- the record of a place, as it is read
 abbrev pub here_at : (rs : List Record) (h i : ℕ) → Here rs h i → (d : Record) → Here rs h i
 here_at rs h i here d =
-    let same = nth_at rs i here.at d here.reads in
+    let same = get_or_from_slice_get rs i here.at d here.reads in
     record { at = get_or rs i d; reads = here.reads ∙ ap Some (sym same); within = here.within; is_taken = ap (λ r. taken r.state) same ∙ here.is_taken; has = ap (λ r. r.start) same ∙ here.has }
 
 pub slots_same : (rs : List Record) (i : ℕ) (at r : Record) → slice_get rs i ≡ Some at → r.state ≡ at.state → view r ≡ view at → active_of (set rs i r) ≡ active_of rs
 slots_same [] i at r e on same = refl
 slots_same (u ∷ rs) zero at r e on same = let is : u ≡ at = cc in ap (λ s. cond (taken s) (view r ∷ active_of rs) (active_of rs)) on ∙ ap (λ v. cond (taken at.state) (v ∷ active_of rs) (active_of rs)) same ∙ ap (λ x. active_of (x ∷ rs)) (sym is)
 slots_same (u ∷ rs) (suc i) at r e on same = ap (λ us. cond (taken u.state) (view u ∷ us) us) (slots_same rs i at r e on same)
-
-pub view_is : (r : Record) (t : Transaction) → r.start ≡ t.start → kind_of r.state ≡ t.kind → ranges r.reads ≡ t.reads → entries r.writes ≡ t.writes → view r ≡ t
-view_is r t a b c d = rw (a, b, c, d)
 
 pub least_more : (kind : Kind) (r : Record) (rs : List Record) (n : ℕ) → least_start (of_kind kind) n (active_of (r ∷ rs)) ≡ cond (holds_kind kind r.state) (min r.start (least_start (of_kind kind) n (active_of rs))) (least_start (of_kind kind) n (active_of rs))
 least_more kind r rs n = go r.state refl
@@ -154,7 +131,56 @@ least_more kind r rs n = go r.state refl
     go Reader e = rw e
     go Updater e = rw e
 
-pub nth_set : {X : Type 0} (xs : List X) (i : ℕ) (x : X) → i < length xs → slice_get (set xs i x) i ≡ Some x
-nth_set [] i x lt = absurd (omega arith)
-nth_set (y ∷ xs) zero x lt = refl
-nth_set (y ∷ xs) (suc i) x lt = nth_set xs i x (omega arith)
+-- Searches
+
+-- the record holds a transaction with this handle
+abbrev pub Has : ℕ → Record → Type 0
+Has h r = (r.start ≡ h) × (taken r.state ≡ true)
+
+abbrev pub Lacks : ℕ → Record → Type 0
+Lacks h r = r.start ≡ h → taken r.state ≡ false
+
+none_found : (rs : List Record) (h : ℕ) → AllByRecursion (Lacks h) rs → found (active_of rs) h ≡ None
+none_found [] h a = refl
+none_found (r ∷ rs) h a = go (taken r.state) a.0 (none_found rs h a.1)
+  where
+    go : (b : Bool) → (r.start ≡ h → b ≡ false) → found (active_of rs) h ≡ None → found (cond b (view r ∷ active_of rs) (active_of rs)) h ≡ None
+    go true f later = rw (ne_eqb r.start h (λ e. true≢false (f e))) later
+    go false f later = later
+
+-- the first record that holds the handle, or none
+pub first_located : (rs : List Record) (h : ℕ) (r : Option ℕ) → length rs ≡ 16 → MatchOption r (AllWithin (Lacks h) rs 0 (length rs)) (λ i. (i < length rs) × HoldsAt (Has h) rs i × AllWithin (Lacks h) rs 0 i) → Located rs h r
+first_located rs h None n none = none_found rs h (recursion_from_All (Lacks h) rs (All-from_all_within (Lacks h) rs none))
+first_located rs h (Some i) n first = elim (slice_get_cases rs i).1 [
+  | inl (at, within, reads, same) ↦ let has = subst (Has h) same (first.1 at) in record { at = at; reads = reads; within = omega (arith, within); is_taken = has.1; has = has.0 }
+  | inr past ↦ absurd (omega (arith, first.0, past.0))
+]
+
+all_taken : (rs : List Record) → AllByRecursion (λ r. taken r.state ≡ true) rs → length (active_of rs) ≡ length rs
+all_taken [] a = refl
+all_taken (r ∷ rs) a = rw (active_taken r rs a.0) (ap suc (all_taken rs a.1))
+
+-- the first free record, or none
+pub first_open : (rs : List Record) (r : Option ℕ) → length rs ≡ 16 → MatchOption r (AllWithin (λ r. taken r.state ≡ true) rs 0 (length rs)) (λ i. (i < length rs) × HoldsAt (λ r. taken r.state ≡ false) rs i × AllWithin (λ r. taken r.state ≡ true) rs 0 i) → Vacant rs r
+first_open rs None n none = all_taken rs (recursion_from_All (λ r. taken r.state ≡ true) rs (All-from_all_within (λ r. taken r.state ≡ true) rs none)) ∙ n
+first_open rs (Some i) n first = elim (slice_get_cases rs i).1 [
+  | inl (at, within, reads, same) ↦ let free = subst (λ r. taken r.state ≡ false) same (first.1 at) in (record { at = at; reads = reads; within = omega (arith, within); is_free = free }, omega (arith, slots_few rs i at reads free))
+  | inr past ↦ absurd (omega (arith, first.0, past.0))
+]
+
+least_min : (p : Kind → Bool) (n x : ℕ) (ts : List Transaction) → least_start p (min n x) ts ≡ min x (least_start p n ts)
+least_min p n x [] = omega arith
+least_min p n x (t ∷ ts) = go (p t.kind) (least_min p n x ts)
+  where
+    go : (b : Bool) → least_start p (min n x) ts ≡ min x (least_start p n ts) → cond b (min t.start (least_start p (min n x) ts)) (least_start p (min n x) ts) ≡ min x (cond b (min t.start (least_start p n ts)) (least_start p n ts))
+    go true e = omega arith
+    go false e = e
+
+-- the least start of the records of a kind
+pub least_fold : (kind : Kind) (rs : List Record) (n : ℕ) → fold min n (map (λ r. r.start) (filter (λ r. holds_kind kind r.state) rs)) ≡ least_start (of_kind kind) n (active_of rs)
+least_fold kind [] n = refl
+least_fold kind (r ∷ rs) n = go (holds_kind kind r.state) (least_more kind r rs n) (least_fold kind rs)
+  where
+    go : (b : Bool) → least_start (of_kind kind) n (active_of (r ∷ rs)) ≡ cond b (min r.start (least_start (of_kind kind) n (active_of rs))) (least_start (of_kind kind) n (active_of rs)) → ((m : ℕ) → fold min m (map (λ r. r.start) (filter (λ r. holds_kind kind r.state) rs)) ≡ least_start (of_kind kind) m (active_of rs)) → fold min n (map (λ r. r.start) (cond b (r ∷ filter (λ r. holds_kind kind r.state) rs) (filter (λ r. holds_kind kind r.state) rs))) ≡ least_start (of_kind kind) n (active_of (r ∷ rs))
+    go true e rest = rest (min n r.start) ∙ least_min (of_kind kind) n r.start (active_of rs) ∙ sym e
+    go false e rest = rest n ∙ sym e

@@ -1,3 +1,4 @@
+pub mod Bounded
 pub mod View
 pub mod Notes
 pub mod Places

@@ -8,12 +8,17 @@ use Rattle.ledger.specs.declared.Fault.{Fault}
 use Rattle.ledger.specs.declared.Fault.TheVariants.{KeyOutside, ShortBuffer, ReaderWrites, ReadListFull, WriteListFull}
 use Rattle.ledger.specs.Ledger.{Transaction, any, is_reader, own_write, written}
 use Rattle.ledger.specs.Calls.{same_range, joined, wrote, is_some}
+use Rattle.transaction_table.specs.declared.lists.Full.{Full}
 
 -- Lists
 
 -- a range that is new to a full read list
 abbrev pub reads_full : List Range → ℕ → ℕ → Bool
 reads_full rs k n = not (any (same_range k n) rs) && nat_le 32 (length rs)
+
+-- there is room for the range
+abbrev pub join_room : List Range → Range → Result (Unit {0}) Full
+join_room rs r = cond (reads_full rs r.first r.count) (Err (record {})) (Ok tt)
 
 abbrev pub reads_with : List Range → ℕ → ℕ → List Range
 reads_with rs k n = cond (any (same_range k n) rs || nat_le 32 (length rs)) rs (rs ++ (record { first = k; count = n } ∷ []))
@@ -32,6 +37,10 @@ Place ws k (Some i) = Stands ws k i
 -- a key that is new to a full write list
 abbrev pub writes_full : List Entry → ℕ → Bool
 writes_full ws k = not (is_some (own_write k ws)) && nat_le 32 (length ws)
+
+-- there is room for the write
+abbrev pub put_room : List Entry → ℕ → Result (Unit {0}) Full
+put_room ws k = cond (writes_full ws k) (Err (record {})) (Ok tt)
 
 abbrev pub writes_with : List Entry → ℕ → ℕ → List Entry
 writes_with ws k x = cond (writes_full ws k) ws (written ws k x)

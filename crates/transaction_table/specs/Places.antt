@@ -8,6 +8,7 @@ use Rattle.ledger.specs.declared.Kind.TheVariants.{Reader, Updater}
 use Rattle.ledger.specs.Ledger.{Transaction, found, is_reader}
 use Rattle.ledger.specs.Calls.{fresh}
 use Rattle.transaction_table.specs.declared.record.State.{State}
+use Rattle.transaction_table.specs.declared.record.State.TheVariants.{Reader as Reads, Updater as Updates}
 use Rattle.transaction_table.specs.declared.record.Record.{Record}
 use Rattle.transaction_table.specs.declared.table.Table.{Table}
 use Rattle.transaction_table.specs.View.{taken, kind_of, active_of}
@@ -75,3 +76,8 @@ of_kind Updater k = not (is_reader k)
 -- a transaction of this kind is in the record
 abbrev pub holds_kind : Kind → State → Bool
 holds_kind kind s = taken s && of_kind kind (kind_of s)
+
+-- what a record is that holds a transaction of this kind
+abbrev pub state_of : Kind → State
+state_of Reader = Reads
+state_of Updater = Updates

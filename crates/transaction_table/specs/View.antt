@@ -1,12 +1,12 @@
 -- The transactions that the records of a table stand for.
-use Rattle.std.specs.Prelude.{Bool, true, false, cond, List, [], ◌∷◌, take}
+use Rattle.std.specs.Prelude.{Bool, true, false, cond, List, [], ◌∷◌}
 use Rattle.ledger.specs.declared.Kind.{Kind}
 use Rattle.ledger.specs.declared.Kind.TheVariants.{Reader, Updater}
 use Rattle.ledger.specs.declared.Range.{Range}
 use Rattle.ledger.specs.declared.Write.{Write}
 use Rattle.ledger.specs.Ledger.{Transaction}
-use Rattle.transaction_table.specs.declared.lists.ReadList.{ReadList}
-use Rattle.transaction_table.specs.declared.lists.WriteList.{WriteList}
+use Rattle.transaction_table.specs.declared.lists.Bounded.{Bounded}
+use Rattle.transaction_table.specs.Bounded.{held}
 use Rattle.transaction_table.specs.declared.record.State.{State}
 use Rattle.transaction_table.specs.declared.record.State.TheVariants.{Free, Reader as Reads, Updater as Updates}
 use Rattle.transaction_table.specs.declared.record.Record.{Record}
@@ -22,11 +22,11 @@ kind_of Free = Reader
 kind_of Reads = Reader
 kind_of Updates = Updater
 
-abbrev pub ranges : ReadList → List Range
-ranges r = take r.len r.items
+abbrev pub ranges : Bounded Range 32 → List Range
+ranges r = held r
 
-abbrev pub entries : WriteList → List Write
-entries w = take w.len w.items
+abbrev pub entries : Bounded Write 32 → List Write
+entries w = held w
 
 abbrev pub view : Record → Transaction
 view r = record { start = r.start; kind = kind_of r.state; reads = ranges r.reads; writes = entries r.writes }

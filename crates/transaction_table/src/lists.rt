@@ -1,24 +1,75 @@
-ghost use Rattle.std.specs.Prelude.{◌≡◌, ◌≤◌, length};
+//! The lists of a transaction: at most 32 items each, in the record itself.
+ghost use Rattle.std.specs.Prelude.{◌≡◌, ◌≤◌, [], length};
+ghost use Rattle.std.specs.Bool.{⊤};
 
 use ledger::{Range, Write};
+use std::alloc::AllocError;
 
 mod reading;
 mod writing;
 
 /// The ranges that an updater read, in the order made.
-#[derive(Clone, Copy)]
-pub struct ReadList {
-    len: usize,
-    items: [Range; 32],
-    ghost fits: { len ≤ 32 },
-    ghost room: { length items ≡ 32 },
-}
+pub type ReadList = Bounded<Range, 32>;
 
 /// The keys that an updater wrote, each once, with their values.
-#[derive(Clone, Copy)]
-pub struct WriteList {
+pub type WriteList = Bounded<Write, 32>;
+
+/// A list of at most `N` items. An array of its own, and neither a `Vec` nor lent places: there is no heap here,
+/// and a record is copied whole.
+pub struct Bounded<T, const N: usize> {
     len: usize,
-    items: [Write; 32],
-    ghost fits: { len ≤ 32 },
-    ghost room: { length items ≡ 32 },
+    items: [T; N],
+    ghost fits: { len ≤ N },
+    ghost room: { length items ≡ N },
+}
+
+/// There is no room for one more item.
+#[derive(Clone, Copy)]
+pub struct Full;
+
+// No derive gives `Clone` to a generic struct with a ghost field.
+impl<T: Copy, const N: usize> Clone for Bounded<T, N> {
+    ghost is_clone = { λ x y. y ≡ x };
+
+    ghost is_infallible = { λ _. ⊤ };
+
+    fn clone(&self) -> Result<Self, AllocError> {
+        Ok(*self)
+    }
+}
+
+impl<T: Copy, const N: usize> Copy for Bounded<T, N> {}
+
+impl<T: Copy, const N: usize> Bounded<T, N> {
+    ghost use Rattle.transaction_table.specs.Bounded.{held, push_room, pushed};
+
+    /// A list without items; until there are any, its places have this one.
+    pub fn empty(filler: T) -> Self
+        ensures { held result ≡ [] }
+    {
+        Bounded {
+            len: 0,
+            items: [filler; N],
+        }
+    }
+
+    /// The items, to be gone through.
+    pub fn as_slice(&self) -> &[T]
+        ensures { result.now ≡ held self.now }
+    {
+        &self.items[..self.len]
+    }
+
+    /// Puts an item behind the others.
+    pub fn push(&mut self, item: T) -> Result<(), Full>
+        ensures room { result ≡ push_room N (held self.old) }
+        ensures after { held self.new ≡ pushed N (held self.old) item }
+    {
+        if self.len == N {
+            return Err(Full);
+        }
+        self.items[self.len] = item;
+        self.len += 1;
+        Ok(())
+    }
 }

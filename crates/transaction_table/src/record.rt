@@ -2,14 +2,15 @@ ghost use Rattle.std.specs.Prelude.{◌≡◌, true, false, if◌then◌else◌,
 ghost use Rattle.ledger.specs.Ledger.{written};
 ghost use Rattle.ledger.specs.Calls.{fresh};
 ghost use Rattle.transaction_table.specs.View.{taken, view, ranges, entries};
-ghost use Rattle.transaction_table.specs.Places.{holds_kind};
+ghost use Rattle.transaction_table.specs.Places.{holds_kind, state_of};
 ghost use Rattle.transaction_table.specs.Notes.{range_answer, join_answer, write_answer, admits, on_ok, noted_on, reads_with};
 
 use crate::lists::{ReadList, WriteList};
-use ledger::{Call, Fault, Kind};
+use ledger::{Call, Fault, Kind, Range, Write};
 
 /// What a record is: free, or an active transaction of this kind.
-#[derive(Clone, Copy)]
+// The project asks for a record whose plain kind is one of these three, which `Option<Kind>` has not.
+#[derive(Clone, Copy, PartialEq)]
 pub enum State {
     Free,
     Reader,
@@ -26,15 +27,23 @@ pub struct Record {
     pub writes: WriteList,
 }
 
+impl From<Kind> for State {
+    ghost from_gives = { λ kind state. state ≡ state_of kind };
+
+    fn from(kind: Kind) -> State {
+        match kind {
+            Kind::Reader => State::Reader,
+            Kind::Updater => State::Updater,
+        }
+    }
+}
+
 impl State {
     /// Whether a transaction of this kind is in the record.
     pub fn holds(self, kind: Kind) -> bool
         ensures { result ≡ holds_kind kind self }
     {
-        match (self, kind) {
-            (State::Reader, Kind::Reader) | (State::Updater, Kind::Updater) => true,
-            (_, _) => false,
-        }
+        self == State::from(kind)
     }
 }
 
@@ -45,10 +54,7 @@ impl Record {
         ensures view { view result ≡ fresh start kind }
     {
         Record {
-            state: match kind {
-                Kind::Reader => State::Reader,
-                Kind::Updater => State::Updater,
-            },
+            state: State::from(kind),
             start,
             reads: ReadList::new(),
             writes: WriteList::new(),
@@ -75,63 +81,63 @@ impl Record {
         ensures after { view self.new ≡ noted_on result (view self.old) call }
     {
         match (self.state, call) {
-            (State::Updater, Call::Write(handle, key, value)) => self.take_write(
-                handle, key, value, keys,
-            ),
+            (State::Updater, Call::Write(handle, key, value)) => {
+                self.take_write(handle, Write { key, value }, keys)
+            }
             (_, Call::Write(handle, _, _)) => Err(Fault::ReaderWrites(handle)),
             (State::Updater, Call::Read(handle, first, count)) => {
-                readable(first, count, keys, room)?;
-                self.take_read(handle, first, count)
+                let range = Range { first, count };
+                readable(range, keys, room)?;
+                self.take_read(handle, range)
             }
-            (_, Call::Read(_, first, count)) => readable(first, count, keys, room),
+            (_, Call::Read(_, first, count)) => readable(Range { first, count }, keys, room),
             (_, _) => Ok(()),
         }
     }
 
+    // What each of the two leaves as it was is a fact of its step, and of no record by itself.
     /// An updater's write.
-    fn take_write(&mut self, handle: u32, key: u16, value: u64, keys: u16) -> Result<(), Fault>
-        ensures answer { result ≡ write_answer keys handle key (entries self.old.writes) }
+    fn take_write(&mut self, handle: u32, write: Write, keys: u16) -> Result<(), Fault>
+        ensures answer { result ≡ write_answer keys handle write.key (entries self.old.writes) }
         ensures state { self.new.state ≡ self.old.state }
         ensures start { self.new.start ≡ self.old.start }
         ensures reads { self.new.reads ≡ self.old.reads }
-        ensures writes { entries self.new.writes ≡ on_ok result (written (entries self.old.writes) key value) (entries self.old.writes) }
+        ensures writes { entries self.new.writes ≡ on_ok result (written (entries self.old.writes) write.key write.value) (entries self.old.writes) }
     {
-        if key >= keys {
-            return Err(Fault::KeyOutside(key));
+        if write.key >= keys {
+            return Err(Fault::KeyOutside(write.key));
         }
-        if !self.writes.put(key, value) {
-            return Err(Fault::WriteListFull(handle));
-        }
-        Ok(())
+        self.writes
+            .put(write)
+            .map_err(|_| Fault::WriteListFull(handle))
     }
 
     /// An updater's read of a range that it may read.
-    fn take_read(&mut self, handle: u32, first: u16, count: u16) -> Result<(), Fault>
-        ensures answer { result ≡ join_answer handle first count (ranges self.old.reads) }
+    fn take_read(&mut self, handle: u32, range: Range) -> Result<(), Fault>
+        ensures answer { result ≡ join_answer handle range.first range.count (ranges self.old.reads) }
         ensures state { self.new.state ≡ self.old.state }
         ensures start { self.new.start ≡ self.old.start }
         ensures writes { self.new.writes ≡ self.old.writes }
-        ensures reads { ranges self.new.reads ≡ (if nat_eq count 0 then ranges self.old.reads else reads_with (ranges self.old.reads) first count) }
+        ensures reads { ranges self.new.reads ≡ (if nat_eq range.count 0 then ranges self.old.reads else reads_with (ranges self.old.reads) range.first range.count) }
     {
         // A range of no keys reads nothing, so nothing can clash with it.
-        if count == 0 {
+        if range.count == 0 {
             return Ok(());
         }
-        if !self.reads.join(first, count) {
-            return Err(Fault::ReadListFull(handle));
-        }
-        Ok(())
+        self.reads
+            .join(range)
+            .map_err(|_| Fault::ReadListFull(handle))
     }
 }
 
 /// Whether the range lies in the table, and its values have room in a buffer of this length.
-fn readable(first: u16, count: u16, keys: u16, room: usize) -> Result<(), Fault>
-    ensures { result ≡ range_answer keys room first count }
+fn readable(range: Range, keys: u16, room: usize) -> Result<(), Fault>
+    ensures { result ≡ range_answer keys room range.first range.count }
 {
-    if first as u32 + count as u32 > keys as u32 {
-        return Err(Fault::KeyOutside(first));
+    if u32::from(range.first) + u32::from(range.count) > u32::from(keys) {
+        return Err(Fault::KeyOutside(range.first));
     }
-    if room < count as usize {
+    if room < usize::from(range.count) {
         return Err(Fault::ShortBuffer(room));
     }
     Ok(())

@@ -35,27 +35,16 @@ impl Table {
     pub fn find(&self, handle: u32) -> Option<usize>
         ensures { Located self.now.records handle result }
     {
-        for (i, record) in self.records.iter().enumerate() {
-            if record.start == handle {
-                match record.state {
-                    State::Free => {}
-                    State::Reader | State::Updater => return Some(i),
-                }
-            }
-        }
-        None
+        self.records.iter().position(|record| record.start == handle && record.state != State::Free)
     }
 
     /// A free place.
     fn vacant(&self) -> Option<usize>
         ensures { Vacant self.now.records result }
     {
-        for (i, record) in self.records.iter().enumerate() {
-            if let State::Free = record.state {
-                return Some(i);
-            }
-        }
-        None
+        self.records
+            .iter()
+            .position(|record| record.state == State::Free)
     }
 
     /// Draws the next tick, and puts a transaction that begins at it into a free place.
@@ -65,9 +54,7 @@ impl Table {
         ensures last { self.new.last ≡ self.old.last }
         ensures active { Shuffle (begun_active result kind self.old.records) (active_of self.new.records) }
     {
-        let Some(slot) = self.vacant() else {
-            return Err(Fault::TooManyActive);
-        };
+        let slot = self.vacant().ok_or(Fault::TooManyActive)?;
         if self.clock >= self.last {
             return Err(Fault::ClockSpent(self.last));
         }
@@ -81,9 +68,7 @@ impl Table {
     pub fn release(&mut self, handle: u32) -> Result<(), Fault>
         ensures { Released self.old handle result self.new }
     {
-        let Some(slot) = self.find(handle) else {
-            return Err(Fault::NoTransaction(handle));
-        };
+        let slot = self.find(handle).ok_or(Fault::NoTransaction(handle))?;
         self.records[slot].state = State::Free;
         Ok(())
     }
@@ -92,12 +77,11 @@ impl Table {
     pub fn least_start(&self, kind: Kind) -> u32
         ensures { result ≡ least_start (of_kind kind) (min (self.now.clock + 1) (2 ^ 32 - 1)) (active_of self.now.records) }
     {
-        let mut least = self.clock.saturating_add(1);
-        for record in self.records.iter() {
-            if record.state.holds(kind) {
-                least = least.min(record.start);
-            }
-        }
-        least
+        let next = self.clock.saturating_add(1);
+        self.records
+            .iter()
+            .filter(|record| record.state.holds(kind))
+            .map(|record| record.start)
+            .fold(next, u32::min)
     }
 }

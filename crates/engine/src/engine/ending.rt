@@ -17,7 +17,7 @@ use versions::store::VersionStore;
 impl<S: VersionStore, V: Validator> Engine<S, V> {
     /// Removes the versions that no transaction reads, now or later, and answers how many.
     pub fn reclaim(&mut self) -> u16
-        ensures serves { ServesBare S.VersionStore.meaning V.Validator.meaning self.old self.new Reclaim (Reclaimed result) }
+        ensures serves { ServesBare S.meaning V.meaning self.old self.new Reclaim (Reclaimed result) }
         ensures table { self.new.table ≡ self.old.table }
         ensures idle { self.old.table.last ≡ 0 → (result ≡ 0) × (self.new ≡ self.old) }
     {
@@ -33,12 +33,10 @@ impl<S: VersionStore, V: Validator> Engine<S, V> {
     /// Ends a transaction. A reader is closed; an updater is committed, unless something that it read
     /// was committed since it began, or ticks or cells are lacking.
     pub fn commit(&mut self, handle: u32) -> Result<Verdict, Fault>
-        ensures serves { ServesBare S.VersionStore.meaning V.Validator.meaning self.old self.new (Commit handle) (told Ended result) }
+        ensures serves { ServesBare S.meaning V.meaning self.old self.new (Commit handle) (told Ended result) }
         ensures idle { Idle self.old self.new }
     {
-        let Some(slot) = self.table.find(handle) else {
-            return Err(Fault::NoTransaction(handle));
-        };
+        let slot = self.place(handle)?;
         let ending = self.table.records[slot];
         let verdict = match ending.state {
             State::Updater => self.judge(&ending),
@@ -50,7 +48,7 @@ impl<S: VersionStore, V: Validator> Engine<S, V> {
 
     /// The verdict on an updater, which is still active. Where it is committed, the next tick is drawn and its writes are versions.
     fn judge(&mut self, updater: &Record) -> Verdict
-        ensures judges { Judges S.VersionStore.meaning V.Validator.meaning self.old self.new updater.now result }
+        ensures judges { Judges S.meaning V.meaning self.old self.new updater.now result }
         ensures idle { Idle self.old self.new }
     {
         let writes = updater.writes.as_slice();
@@ -62,7 +60,8 @@ impl<S: VersionStore, V: Validator> Engine<S, V> {
             return Verdict::Spent;
         }
         let free = self.store.free();
-        if writes.len() > free as usize {
+        if writes.len() > usize::from(free) {
+            // `u16` has no `From<usize>`; a write list has 32 at most.
             return Verdict::Full(writes.len() as u16, free);
         }
         self.table.clock += 1;
@@ -72,20 +71,21 @@ impl<S: VersionStore, V: Validator> Engine<S, V> {
 
     /// Reclaims, if fewer cells are free than versions are to be added.
     fn make_room(&mut self, versions: usize)
-        ensures fits { MakesRoom S.VersionStore.meaning V.Validator.meaning self.old self.new versions }
+        ensures fits { MakesRoom S.meaning V.meaning self.old self.new versions }
         ensures table { self.new.table ≡ self.old.table }
         ensures idle { Idle self.old self.new }
     {
-        if versions > self.store.free() as usize {
+        if versions > usize::from(self.store.free()) {
             self.reclaim();
         }
     }
 
     /// The first clash of an updater: the key, and its granule's stamp.
     fn first_clash(&self, updater: &Record) -> Option<(u16, u32)>
-        ensures { result ≡ first_named (V.Validator.meaning self.now.validator) updater.now.start (ranges updater.now.reads) }
+        ensures { result ≡ first_named (V.meaning self.now.validator) updater.now.start (ranges updater.now.reads) }
     {
         let reads = updater.reads.as_slice();
+        // Not `find_map`: a loop that a match leaves by its label is a form that this project has to show.
         let mut found = None;
         'entries: for range in reads {
             match self.clash_in(*range, updater.start) {
@@ -101,20 +101,19 @@ impl<S: VersionStore, V: Validator> Engine<S, V> {
 
     /// The first key of the range that clashes with a start, and its granule's stamp.
     fn clash_in(&self, range: Range, start: u32) -> Option<(u16, u32)>
-        ensures { result ≡ named (clash_answer (V.Validator.meaning self.now.validator) range.first range.count start) }
+        ensures { result ≡ named (clash_answer (V.meaning self.now.validator) range.first range.count start) }
     {
-        match self.validator.clash(range.first, range.count, start) {
-            Ok(clash) => clash,
-            // The ranges of a read list are in the table, so the validator refuses none.
-            Err(_) => None,
-        }
+        // The ranges of a read list are in the table, so the validator refuses none.
+        self.validator
+            .clash(range.first, range.count, start)
+            .unwrap_or(None)
     }
 
     /// Adds a version for each write, stamped with the last tick drawn, and notes its key.
     fn install(&mut self, writes: &[Write])
         ensures table { self.new.table ≡ self.old.table }
-        ensures store { S.VersionStore.meaning self.new.store ≡ all_added self.old.table.clock (S.VersionStore.meaning self.old.store) writes.now }
-        ensures validator { V.Validator.meaning self.new.validator ≡ all_noted self.old.table.clock (V.Validator.meaning self.old.validator) writes.now }
+        ensures store { S.meaning self.new.store ≡ all_added self.old.table.clock (S.meaning self.old.store) writes.now }
+        ensures validator { V.meaning self.new.validator ≡ all_noted self.old.table.clock (V.meaning self.old.validator) writes.now }
     {
         let tick = self.table.clock;
         for write in writes {

@@ -1,64 +1,44 @@
-ghost use Rattle.std.specs.Prelude.{◌≡◌, not, []};
+ghost use Rattle.std.specs.Prelude.{◌≡◌, []};
 ghost use Rattle.ledger.specs.Ledger.{own_write};
 ghost use Rattle.transaction_table.specs.View.{entries};
-ghost use Rattle.transaction_table.specs.Notes.{Place, writes_full, writes_with};
+ghost use Rattle.transaction_table.specs.Notes.{Place, put_room, writes_with};
 
-use super::WriteList;
+use super::{Bounded, Full, WriteList};
 use ledger::Write;
 
-impl WriteList {
+impl Bounded<Write, 32> {
     pub fn new() -> WriteList
         ensures { entries result ≡ [] }
     {
-        WriteList {
-            len: 0,
-            items: [Write { key: 0, value: 0 }; 32],
-        }
-    }
-
-    /// The writes, to be gone through.
-    pub fn as_slice(&self) -> &[Write]
-        ensures { result.now ≡ entries self.now }
-    {
-        &self.items[0..self.len]
+        Bounded::empty(Write { key: 0, value: 0 })
     }
 
     /// Where the key stands.
     fn place(&self, key: u16) -> Option<usize>
         ensures { Place (entries self.now) key result }
     {
-        for i in 0..self.len {
-            if self.items[i].key == key {
-                return Some(i);
-            }
-        }
-        None
+        self.as_slice().iter().position(|write| write.key == key)
     }
 
     /// The value written to the key.
     pub fn value(&self, key: u16) -> Option<u64>
         ensures { result ≡ own_write key (entries self.now) }
     {
-        match self.place(key) {
-            Some(i) => Some(self.items[i].value),
-            None => None,
-        }
+        self.as_slice()
+            .iter()
+            .find(|write| write.key == key)
+            .map(|write| write.value)
     }
 
-    /// Puts the value in the key's old place, or behind the others; false where there is no room.
-    pub fn put(&mut self, key: u16, value: u64) -> bool
-        ensures room { result ≡ not (writes_full (entries self.old) key) }
-        ensures after { entries self.new ≡ writes_with (entries self.old) key value }
+    /// Puts a write in its key's old place, or behind the others.
+    pub fn put(&mut self, write: Write) -> Result<(), Full>
+        ensures room { result ≡ put_room (entries self.old) write.key }
+        ensures after { entries self.new ≡ writes_with (entries self.old) write.key write.value }
     {
-        if let Some(i) = self.place(key) {
-            self.items[i] = Write { key, value };
-            return true;
+        if let Some(i) = self.place(write.key) {
+            self.items[i] = write;
+            return Ok(());
         }
-        if self.len >= 32 {
-            return false;
-        }
-        self.items[self.len] = Write { key, value };
-        self.len += 1;
-        true
+        self.push(write)
     }
 }

@@ -1,25 +1,18 @@
-use Rattle.std.proofs.Common.{◌≡◌, ◌-◌, arith}
+use Rattle.std.proofs.Common.{eqb, rules, tests}
+use Rattle.std.proofs.lemmas.Iterator.{YieldsList-from_slice}
+use Rattle.std.proofs.lemmas.Iterator.Search.{position_from_yields_List}
 use Rattle.std.proofs.lemmas.List.{take_rest}
-use Rattle.club.proofs.Texts.{in_word_none, in_word_more, word_found, rest_found, word_all, rest_none}
+use Rattle.club.proofs.Texts.{split_at, not_split}
 use Rattle.club.proofs.line.split_word.Goals as goal
 
-pub loop-i-init : goal.loop-i-init
-loop-i-init c = in_word_none c.args.line.now
+pub returns-in-Some : goal.returns-in-Some
+returns-in-Some c =
+    let found = position_from_yields_List (λ b. eqb b 32) _ _ c.position.result c.position.ensures.ran (YieldsList-from_slice c.args.line.now cc) (λ x b q k. search (rules, tests)) in
+    let parts = split_at c.args.line.now c.position.result found c.in-Some.i c.in-Some.is in
+    record { first = parts.0; rest = rw take_rest parts.1 }
 
-pub returns-then-byte-eq32 : goal.returns-then-byte-eq32
-returns-then-byte-eq32 c =
-    let z : c.loop-i.i - 0 ≡ c.loop-i.i = omega arith in
-    record {
-      first = rw z (word_found c.args.line.now c.loop-i.i c.loop-i.invariant c.loop-i-test.true c.if-byte-eq32.true);
-      rest = rw take_rest (rest_found c.args.line.now c.loop-i.i c.loop-i.invariant c.loop-i-test.true c.if-byte-eq32.true);
-    }
-
-pub loop-i-preserved : goal.loop-i-preserved
-loop-i-preserved c = in_word_more c.args.line.now c.loop-i.i c.loop-i.invariant c.loop-i-test.true c.if-byte-eq32.false
-
-pub returns : goal.returns
-returns c =
-    record {
-      first = word_all c.args.line.now c.loop-i.i c.loop-i.invariant c.loop-i-test.false;
-      rest = rest_none c.args.line.now c.loop-i.i c.loop-i.invariant c.loop-i-test.false;
-    }
+pub returns-in-None : goal.returns-in-None
+returns-in-None c =
+    let found = position_from_yields_List (λ b. eqb b 32) _ _ c.position.result c.position.ensures.ran (YieldsList-from_slice c.args.line.now cc) (λ x b q k. search (rules, tests)) in
+    let parts = not_split c.args.line.now c.position.result found c.in-None.is in
+    record { first = parts.0; rest = parts.1 }

@@ -1,6 +1,5 @@
-use Rattle.std.proofs.Common.{refl}
 use Rattle.engine.proofs.Takings.{begin_steps}
 use Rattle.engine.proofs.engine.Engine.begin.Goals as goal
 
-pub returns : goal.returns
-returns g c = record { answer = c.begin.ensures.answer; serves = λ b l f. begin_steps f c.args.kind b c.begin.result c.begin.new.self c.begin.ensures.answer c.begin.ensures.clock c.begin.ensures.last c.begin.ensures.active; idle = λ _. (refl, refl) }
+pub returns-clause-serves : goal.returns-clause-serves
+returns-clause-serves g c b l f = begin_steps f c.args.kind b c.begin.result c.begin.new.self c.begin.ensures.answer c.begin.ensures.clock c.begin.ensures.last c.begin.ensures.active
