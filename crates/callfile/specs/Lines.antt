@@ -1,6 +1,6 @@
 -- The text of a line: the number of its record, a space, and the result.
 use Rattle.std.specs.Prelude.{ℕ, List, [], ◌∷◌, ◌++◌, take, Ok, Err, codes, decimal, Result}
-use Rattle.ledger.specs.Faults.{Report}
+use Rattle.ledger.specs.Faults.{report_text}
 use Rattle.ledger.specs.declared.Verdict.{Verdict}
 use Rattle.ledger.specs.declared.Verdict.TheVariants.{Closed, Restart, Spent, Full, Committed}
 use Rattle.callfile.specs.declared.fault.CallFault.{CallFault}
@@ -28,9 +28,6 @@ done_text Wrote b = codes " wrote"
 done_text (Ended v) b = verdict_text v
 done_text Aborted b = codes " aborted"
 done_text (Reclaimed n) b = codes " reclaimed " ++ decimal n
-
-abbrev pub report_text : Report → List ℕ
-report_text r = decimal r.layer ++ (codes " " ++ (decimal r.number ++ (codes " " ++ decimal r.place)))
 
 abbrev pub result_text : Result Done CallFault → List ℕ → List ℕ
 result_text (Ok d) b = done_text d b

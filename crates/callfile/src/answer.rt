@@ -37,26 +37,27 @@ fn perform<S: VersionStore, V: Validator>(
 ) -> Result<Done, CallFault>
     ensures { Answered S.VersionStore.meaning V.Validator.meaning engine.old engine.new (decoded bytes.now) number buffer.old result buffer.new }
 {
-    let Some(call) = decode(bytes) else {
-        return Err(CallFault::Malformed(number));
-    };
+    let call = decode(bytes).ok_or(CallFault::Malformed(number))?;
     let answer = engine.call(call, buffer);
-    let done = done(call, answer)?;
-    Ok(done)
+    Ok(Done::try_from((call, answer))?)
 }
 
 /// What the answer to a call says was done.
-fn done(call: Call, answer: Answer) -> Result<Done, Fault>
-    ensures { result ≡ done_by call answer }
-{
-    match answer {
-        Answer::Began(handle) => Ok(Done::Began(handle)),
-        Answer::Read => Ok(Done::Read(values(call))),
-        Answer::Wrote => Ok(Done::Wrote),
-        Answer::Ended(verdict) => Ok(Done::Ended(verdict)),
-        Answer::Aborted => Ok(Done::Aborted),
-        Answer::Reclaimed(count) => Ok(Done::Reclaimed(count)),
-        Answer::Refused(fault) => Err(fault),
+impl TryFrom<(Call, Answer)> for Done {
+    type Error = Fault;
+
+    ghost try_from_gives = { λ made done. done ≡ done_by made.0 made.1 };
+
+    fn try_from((call, answer): (Call, Answer)) -> Result<Done, Fault> {
+        match answer {
+            Answer::Began(handle) => Ok(Done::Began(handle)),
+            Answer::Read => Ok(Done::Read(values(call))),
+            Answer::Wrote => Ok(Done::Wrote),
+            Answer::Ended(verdict) => Ok(Done::Ended(verdict)),
+            Answer::Aborted => Ok(Done::Aborted),
+            Answer::Reclaimed(count) => Ok(Done::Reclaimed(count)),
+            Answer::Refused(fault) => Err(fault),
+        }
     }
 }
 

@@ -13,6 +13,7 @@ pub enum CallFault {
     Engine(Fault),
 }
 
+// The three that a fault of the ledger answers too: one that was carried up is asked in its turn.
 impl CallFault {
     pub fn layer(self) -> u8
         ensures { result ≡ (report self).layer }

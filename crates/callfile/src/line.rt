@@ -1,6 +1,7 @@
-ghost use Rattle.std.specs.Prelude.{◌≡◌, take, Some};
+ghost use Rattle.std.specs.Prelude.{Some};
+ghost use Rattle.ledger.specs.Faults.{report_text};
 ghost use Rattle.callfile.specs.Faults.{report};
-ghost use Rattle.callfile.specs.Lines.{spaced, report_text, line_text};
+ghost use Rattle.callfile.specs.Lines.{spaced, line_text};
 
 use crate::fault::CallFault;
 use ledger::Verdict;
@@ -26,17 +27,6 @@ pub struct Line<'a> {
     pub buffer: &'a [u64],
 }
 
-/// So many values from the buffer's front on, or all that there are.
-fn front(buffer: &[u64], count: u16) -> &[u64]
-    ensures { result.now ≡ take count buffer.now }
-{
-    if (count as usize) < buffer.len() {
-        &buffer[..count as usize]
-    } else {
-        buffer
-    }
-}
-
 /// A space before each value.
 #[derive(Clone, Copy)]
 struct Spaced<'a> {
@@ -58,10 +48,7 @@ impl fmt::Display for CallFault {
     ghost output = { λ e. Some (report_text (report e)) };
 
     fn fmt<W: fmt::Write>(&self, f: &mut fmt::Formatter<W>) -> fmt::Result {
-        let layer = self.layer();
-        let number = self.number();
-        let place = self.place();
-        write!(f, "{layer} {number} {place}")
+        write!(f, "{} {} {}", self.layer(), self.number(), self.place())
     }
 }
 
@@ -73,8 +60,9 @@ impl fmt::Display for Line<'_> {
         match self.result {
             Ok(Done::Began(handle)) => write!(f, "{number} began {handle}"),
             Ok(Done::Read(count)) => {
+                let count = usize::from(count);
                 let values = Spaced {
-                    values: front(self.buffer, count),
+                    values: self.buffer.get(..count).unwrap_or(self.buffer),
                 };
                 write!(f, "{number} read{values}")
             }

@@ -9,18 +9,15 @@ use std::io::{BufReader, BufWriter, Read, Write};
 use validation::validator::Validator;
 use versions::store::VersionStore;
 
-/// Answers each record of an input on a new engine, until the input ends. Every read is lent the buffer.
+/// Answers each record of an input on the engine, until the input ends. Every read is lent the buffer.
 /// Only the buffers of input and output are allocated, once.
 pub fn run<S: VersionStore + Drop, V: Validator + Drop, R: Read + Drop, W: Write + Drop>(
     alloc: Global,
-    last: u32,
-    store: S,
-    validator: V,
+    mut engine: Engine<S, V>,
     buffer: &mut [u64],
     input: R,
     output: W,
 ) -> io::Result<()> {
-    let mut engine = Engine::make(last, store, validator);
     let mut input = BufReader::new(alloc, input)?;
     let mut output = BufWriter::new(alloc, output)?;
     for number in 1..u64::MAX {
@@ -45,13 +42,14 @@ pub fn run<S: VersionStore + Drop, V: Validator + Drop, R: Read + Drop, W: Write
 fn read_record<R: Read>(input: &mut R, bytes: &mut [u8]) -> io::Result<usize>
     ensures { IfOk result (λ n. n ≤ length bytes.old) }
 {
-    let mut count = 0;
-    while count < bytes.len() {
-        let more = input.read(&mut bytes[count..])?;
+    let size = bytes.len();
+    let mut rest = bytes;
+    while !rest.is_empty() {
+        let more = input.read(rest)?;
         if more == 0 {
             break;
         }
-        count += more;
+        rest = &mut rest[more..];
     }
-    Ok(count)
+    Ok(size - rest.len())
 }

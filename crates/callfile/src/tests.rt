@@ -1,4 +1,5 @@
 use crate::stream::run;
+use engine::engine::Engine;
 use ledger::{Call, Kind};
 use records::codec::{RECORD, encode};
 use std::test::Fail;
@@ -23,19 +24,18 @@ fn answers_to_the_end(rt: HostRuntime) -> Result<(), Fail> {
     }
     // The last record is short of a byte.
     let _ = records.pop();
-    let mut cells = [Version {
-        key: 0,
-        stamp: 0,
-        value: 0,
-    }; 4];
-    let mut entries = [Entry { key: 0, stamp: 0 }; 4];
+    let mut cells = [Version::CLEARED; 4];
+    let mut entries = [Entry::CLEARED; 4];
     let mut buffer = [0; 2];
     let mut lines = Vec::new(rt.alloc());
-    run(
-        rt.alloc(),
+    let engine = Engine::make(
         100,
         LogStore::make(4, &mut cells),
         RecentList::make(4, &mut entries),
+    );
+    run(
+        rt.alloc(),
+        engine,
         &mut buffer,
         records.as_slice(),
         &mut lines,

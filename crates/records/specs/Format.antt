@@ -3,6 +3,7 @@ use Rattle.std.specs.Prelude.{ℕ, ◌+◌, ◌*◌, ◌/◌, ◌%◌, Bool, con
 use Rattle.ledger.specs.declared.Kind.TheVariants.{Reader, Updater}
 use Rattle.ledger.specs.declared.Call.{Call}
 use Rattle.ledger.specs.declared.Call.TheVariants.{Begin, Read, Write, Commit, Abort, Reclaim}
+use Rattle.records.specs.declared.codec.Fields.{Fields}
 
 -- Numbers, the low byte first
 
@@ -17,13 +18,6 @@ abbrev pub eight : List ℕ → ℕ → ℕ
 eight b i = four b i + slice_index b (i + 4) * 4294967296 + slice_index b (i + 5) * 1099511627776 + slice_index b (i + 6) * 281474976710656 + slice_index b (i + 7) * 72057594037927936
 
 -- The fields
-
-pub record Fields : Type 0 where
-  pub kind : ℕ
-  pub key : ℕ
-  pub count : ℕ
-  pub handle : ℕ
-  pub value : ℕ
 
 abbrev pub with_fields : ℕ → ℕ → ℕ → ℕ → ℕ → Fields
 with_fields kind key count handle value = record { kind = kind; key = key; count = count; handle = handle; value = value }

@@ -1,9 +1,11 @@
-ghost use Rattle.std.specs.Prelude.{◌≡◌, ◌+◌, ◌-◌, ◌^◌, min};
+ghost use Rattle.std.specs.Prelude.{◌≡◌};
+ghost use Rattle.trials.specs.Tally.{AddsUp};
 
 use std::fmt;
+use std::ops::AddAssign;
 
 /// What was compared, and what differed.
-#[derive(Clone, Copy)]
+#[derive(Clone, Copy, Default)]
 pub struct Tally {
     /// Call files answered: one for each pair of store and validator.
     pub runs: u64,
@@ -16,18 +18,14 @@ impl Tally {
     pub fn new() -> Tally
         ensures { (result.runs ≡ 0) × (result.lines ≡ 0) × (result.differing ≡ 0) }
     {
-        Tally {
-            runs: 0,
-            lines: 0,
-            differing: 0,
-        }
+        Tally::default()
     }
+}
 
-    pub fn add(&mut self, other: Tally)
-        ensures runs { self.new.runs ≡ min (self.old.runs + other.runs) (2 ^ 64 - 1) }
-        ensures lines { self.new.lines ≡ min (self.old.lines + other.lines) (2 ^ 64 - 1) }
-        ensures differing { self.new.differing ≡ min (self.old.differing + other.differing) (2 ^ 64 - 1) }
-    {
+impl AddAssign for Tally {
+    ghost add_assign_gives = { AddsUp };
+
+    fn add_assign(&mut self, other: Tally) {
         self.runs = self.runs.saturating_add(other.runs);
         self.lines = self.lines.saturating_add(other.lines);
         self.differing = self.differing.saturating_add(other.differing);
@@ -36,11 +34,13 @@ impl Tally {
 
 impl fmt::Display for Tally {
     fn fmt<W: fmt::Write>(&self, f: &mut fmt::Formatter<W>) -> fmt::Result {
-        let runs = self.runs;
-        let lines = self.lines;
+        let Tally {
+            runs,
+            lines,
+            differing,
+        } = *self;
         write!(f, "{runs} runs, {lines} lines")?;
-        if self.differing > 0 {
-            let differing = self.differing;
+        if differing > 0 {
             write!(f, ", {differing} runs differ")?;
         }
         Ok(())

@@ -1,31 +1,25 @@
-ghost use Rattle.std.specs.Prelude.{◌≡◌, IfOk, if◌then◌else◌, Decides, nat_eq};
+ghost use Rattle.std.specs.Prelude.{◌≡◌, IfOk, IfErr, IsSomeAnd, MatchOption, MatchResult, Ok, Err, if◌then◌else◌, nat_eq};
+ghost use Rattle.std.specs.IoError.{error_kind};
+ghost use Rattle.std.specs.declared.io.ErrorKind.TheVariants.{InvalidData};
+ghost use Rattle.std.specs.declared.num.ParseIntError.{ParseIntError};
+ghost use Rattle.trials.specs.declared.trial.SettingError.TheVariants.{Short, Number};
+ghost use Rattle.trials.specs.Setting.{Gives, GivesNone};
 
 use crate::tally::Tally;
 use callfile::stream::run;
 use chain::cell::Cell;
 use chain::store::ChainStore;
+use engine::engine::Engine;
 use std::alloc::Global;
 use std::io;
+use std::num::ParseIntError;
+use std::str::FromStr;
 use validation::entry::Entry;
 use validation::recent::RecentList;
 use validation::table::StampTable;
 use validation::validator::Validator;
 use versions::log::LogStore;
 use versions::store::{Version, VersionStore};
-
-const BLANK_VERSION: Version = Version {
-    key: 0,
-    stamp: 0,
-    value: 0,
-};
-
-const BLANK_CELL: Cell = Cell {
-    stamp: 0,
-    value: 0,
-    next: None,
-};
-
-const UNNOTED: Entry = Entry { key: 0, stamp: 0 };
 
 /// What an engine is made with.
 #[derive(Clone, Copy)]
@@ -39,88 +33,126 @@ pub struct Setting {
     places: usize,
 }
 
-impl Setting {
-    /// The name and the setting that a line gives.
-    pub fn parse(line: &str) -> Option<(&str, Setting)> {
-        let mut words = line.split_whitespace();
-        let name = words.next()?;
-        let setting = Setting {
-            keys: words.next()?.parse::<u16>().ok()?,
-            cells: words.next()?.parse::<usize>().ok()?,
-            grain: words.next()?.parse::<u16>().ok()?,
-            last: words.next()?.parse::<u32>().ok()?,
-            places: words.next()?.parse::<usize>().ok()?,
-        };
-        Some((name, setting))
-    }
+/// Why a text gives no setting.
+#[derive(Debug, Drop)]
+pub enum SettingError {
+    /// There are fewer numbers than it takes.
+    Short,
+    /// A word is no number of its size.
+    Number(ParseIntError),
+}
 
-    fn granules(self) -> usize {
-        (self.keys as usize).div_ceil(self.grain.max(1) as usize)
+impl From<ParseIntError> for SettingError {
+    ghost from_gives = { λ cause e. e ≡ Number cause };
+
+    fn from(cause: ParseIntError) -> SettingError {
+        SettingError::Number(cause)
     }
 }
 
-/// A call file with the lines that it must give.
+impl From<SettingError> for io::Error {
+    ghost from_gives = { λ _ e. error_kind e ≡ InvalidData };
+
+    fn from(_: SettingError) -> io::Error {
+        io::ErrorKind::InvalidData.into()
+    }
+}
+
+impl FromStr for Setting {
+    type Err = SettingError;
+
+    ghost from_str_gives = { λ text r. MatchResult r (Gives text) (GivesNone text) };
+
+    fn from_str(text: &str) -> Result<Setting, SettingError> {
+        let mut words = text.split_whitespace();
+        let keys = number(words.next())?;
+        let cells = number(words.next())?;
+        let grain = number(words.next())?;
+        let last = number(words.next())?;
+        let places = number(words.next())?;
+        Ok(Setting {
+            keys,
+            cells,
+            grain,
+            last,
+            places,
+        })
+    }
+}
+
+/// The number that a word writes.
+fn number<N: FromStr<Err = ParseIntError> + Drop>(word: Option<&str>) -> Result<N, SettingError>
+    ensures ok { IfOk result (λ n. IsSomeAnd word.entry (λ w. N.from_str_gives w.now (Ok n))) }
+    ensures err { IfErr result (λ e. MatchOption word.entry (e ≡ Short) (λ w. (cause : ParseIntError) × ((e ≡ Number cause) × N.from_str_gives w.now (Err cause)))) }
+{
+    let word = word.ok_or(SettingError::Short)?;
+    Ok(word.parse::<N>()?)
+}
+
+impl Setting {
+    fn granules(self) -> usize {
+        usize::from(self.keys).div_ceil(usize::from(self.grain.max(1)))
+    }
+}
+
+/// A call file with the lines that it must give, and where the memory of its runs comes from.
 #[derive(Clone, Copy)]
 pub struct Trial<'a> {
+    pub heap: Global,
     pub setting: Setting,
     pub calls: &'a [u8],
     pub expected: &'a [u8],
 }
 
-impl<'a> Trial<'a> {
+impl Trial<'_> {
     /// Over every pair that can have the setting's granules: in a recent list each key is its own.
-    pub fn over_pairs(self, heap: Global) -> io::Result<Tally>
+    pub fn over_pairs(self) -> io::Result<Tally>
         ensures { IfOk result (λ t. t.runs ≡ (if nat_eq self.entry.setting.grain 1 then 4 else 2)) }
     {
         let Setting { keys, grain, .. } = self.setting;
         let mut tally = Tally::new();
-        let mut stamps = vec![in heap; 0u32; self.setting.granules()]?;
-        tally.add(self.over_log(heap, StampTable::make(keys, grain, stamps.as_mut_slice()))?);
-        tally.add(self.over_chain(heap, StampTable::make(keys, grain, stamps.as_mut_slice()))?);
+        let mut stamps = vec![in self.heap; 0u32; self.setting.granules()]?;
+        tally += self.over_log(StampTable::make(keys, grain, stamps.as_mut_slice()))?;
+        tally += self.over_chain(StampTable::make(keys, grain, stamps.as_mut_slice()))?;
         if grain == 1 {
-            let mut entries = vec![in heap; UNNOTED; keys as usize]?;
-            tally.add(self.over_log(heap, RecentList::make(keys, entries.as_mut_slice()))?);
-            tally.add(self.over_chain(heap, RecentList::make(keys, entries.as_mut_slice()))?);
+            let mut entries = vec![in self.heap; Entry::CLEARED; usize::from(keys)]?;
+            tally += self.over_log(RecentList::make(keys, entries.as_mut_slice()))?;
+            tally += self.over_chain(RecentList::make(keys, entries.as_mut_slice()))?;
         }
         Ok(tally)
     }
 
-    fn over_log<V: Validator + Drop>(self, heap: Global, validator: V) -> io::Result<Tally>
+    fn over_log<V: Validator + Drop>(self, validator: V) -> io::Result<Tally>
         ensures { IfOk result (λ t. t.runs ≡ 1) }
     {
-        let mut cells = vec![in heap; BLANK_VERSION; self.setting.cells]?;
-        let store = LogStore::make(self.setting.keys, cells.as_mut_slice());
-        self.over(heap, store, validator)
+        let Setting { keys, cells, .. } = self.setting;
+        let mut cells = vec![in self.heap; Version::CLEARED; cells]?;
+        self.over(LogStore::make(keys, cells.as_mut_slice()), validator)
     }
 
-    fn over_chain<V: Validator + Drop>(self, heap: Global, validator: V) -> io::Result<Tally>
+    fn over_chain<V: Validator + Drop>(self, validator: V) -> io::Result<Tally>
         ensures { IfOk result (λ t. t.runs ≡ 1) }
     {
-        let mut heads = vec![in heap; None; self.setting.keys as usize]?;
-        let mut cells = vec![in heap; BLANK_CELL; self.setting.cells]?;
-        let store = ChainStore::make(
-            self.setting.keys,
-            heads.as_mut_slice(),
-            cells.as_mut_slice(),
-        );
-        self.over(heap, store, validator)
+        let Setting { keys, cells, .. } = self.setting;
+        let mut heads = vec![in self.heap; None; usize::from(keys)]?;
+        let mut cells = vec![in self.heap; Cell::CLEARED; cells]?;
+        let store = ChainStore::make(keys, heads.as_mut_slice(), cells.as_mut_slice());
+        self.over(store, validator)
     }
 
     fn over<S: VersionStore + Drop, V: Validator + Drop>(
         self,
-        heap: Global,
         store: S,
         validator: V,
     ) -> io::Result<Tally>
         ensures { IfOk result (λ t. t.runs ≡ 1) }
     {
-        let mut buffer = vec![in heap; 0u64; self.setting.places]?;
-        let mut lines = Vec::new(heap);
+        let mut buffer = vec![in self.heap; 0u64; self.setting.places]?;
+        let mut lines = Vec::new(self.heap);
+        let engine = Engine::make(self.setting.last, store, validator);
         run(
-            heap,
-            self.setting.last,
-            store,
-            validator,
+            self.heap,
+            engine,
             buffer.as_mut_slice(),
             self.calls,
             &mut lines,
@@ -135,25 +167,11 @@ fn compared(expected: &[u8], lines: &[u8]) -> Tally
     ensures alike { lines.now ≡ expected.now → result.differing ≡ 0 }
     ensures told { result.differing ≡ 0 → lines.now ≡ expected.now }
 {
+    let ends = expected.iter().filter(|&&byte| byte == b'\n');
     Tally {
         runs: 1,
-        lines: count_lines(expected),
-        differing: if alike(lines, expected) { 0 } else { 1 },
+        // Rust has no `From<usize> for u64`, and a count cannot fail to fit.
+        lines: ends.count() as u64,
+        differing: u64::from(lines != expected),
     }
-}
-
-fn alike(lines: &[u8], expected: &[u8]) -> bool
-    ensures { Decides result (lines.now ≡ expected.now) }
-{
-    lines == expected
-}
-
-fn count_lines(text: &[u8]) -> u64 {
-    let mut count = 0u64;
-    for byte in text {
-        if *byte == b'\n' {
-            count = count.saturating_add(1);
-        }
-    }
-    count
 }

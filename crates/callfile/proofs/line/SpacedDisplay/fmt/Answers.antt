@@ -1,7 +1,5 @@
-use Rattle.std.proofs.Common.{take, is_ok, ap, arith}
+use Rattle.std.proofs.Common.{is_ok, ap, arith}
 use Rattle.std.proofs.Output.{has_written_append, has_written_of_eq}
-use Rattle.std.proofs.lemmas.List.{take_all}
-use Rattle.callfile.specs.Lines.{spaced}
 use Rattle.callfile.proofs.Spacing.{spaced_more}
 use Rattle.callfile.proofs.line.SpacedDisplay.fmt.Goals as goal
 
@@ -11,6 +9,3 @@ loop-value-preserved g c = λ plain.
     let more = c.write.ensures.writes before.plain (ap is_ok c.in_ok-write.was) in
     has_written_of_eq g.W.Write.write_str_gives _ _ _ _ (spaced_more c.args.self.now.values.now c.loop-value.value-index (omega arith))
     (has_written_append g.W.Write.write_str_gives _ _ _ _ _ before more)
-
-pub returns-clause-writes : goal.returns-clause-writes
-returns-clause-writes g c = λ plain ok. has_written_of_eq g.W.Write.write_str_gives _ _ _ _ (ap spaced (take_all c.loop-value.value-index c.args.self.now.values.now (omega arith))) (c.loop-value.invariant plain)
