@@ -37,7 +37,7 @@ pub fn version(cells: &[Cell], link: Link) -> (u32, u64)
     })
 }
 
-// A list of links is walked by `while let`; no library iterator follows them.
+// A list of links is walked by `while let`: the library's `successors` has no end that a proof knows.
 /// The first cell of the list from a link on whose stamp is below the tick.
 pub fn find_below(cells: &[Cell], from: Link, tick: u32) -> Link
     requires { Ends cells.now from }

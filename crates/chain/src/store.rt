@@ -7,7 +7,7 @@ ghost use Rattle.chain.specs.Laws.{chain_lawful};
 use crate::cell::{Cell, Link};
 use crate::links::{link_all, prune_chains, push, version, version_below};
 use versions::fault::StoreFault;
-use versions::store::{MAX_CELLS, MAX_KEYS, Version, VersionStore};
+use versions::store::{Version, VersionStore, check_sizes};
 
 /// Each key's versions linked from its head, newest first, over lent heads and cells.
 #[derive(Drop)]
@@ -32,12 +32,7 @@ impl<'h, 'c> ChainStore<'h, 'c> {
     pub fn check(keys: u16, heads: usize, cells: usize) -> Result<(), StoreFault>
         ensures { result ≡ chain_set_up keys heads cells }
     {
-        if keys == 0 || keys > MAX_KEYS {
-            return Err(StoreFault::Keys(keys));
-        }
-        if cells == 0 || cells > MAX_CELLS {
-            return Err(StoreFault::Cells(cells));
-        }
+        check_sizes(keys, cells)?;
         if heads != usize::from(keys) {
             return Err(StoreFault::Heads(heads));
         }

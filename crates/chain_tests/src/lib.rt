@@ -47,9 +47,9 @@ mod tests {
     // Adds to both stores until they are full, and on; some stamps are stale, and one key is not there.
     fn fill<A: VersionStore, B: VersionStore>(rt: &impl Abort, a: &mut A, b: &mut B, round: u8) {
         let first = u32::from(round) * 10 + 1;
-        for step in 0..24u32 {
-            let key = (step / 2 % 5) as u16;
-            let stamp = first + step / 3;
+        for step in 0..24u16 {
+            let key = step / 2 % 5;
+            let stamp = first + u32::from(step / 3);
             let value = u64::from(stamp) * 100 + u64::from(key);
             assert_eq!(rt; a.add(key, stamp, value), b.add(key, stamp, value));
             assert!(rt; alike(a, b, first + 10));

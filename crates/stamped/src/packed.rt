@@ -74,6 +74,7 @@ impl<'a, T: Stamped + Copy> Packed<'a, T> {
     }
 }
 
+// A function over the places: of a slice that is cut in place out of a struct with a model no proof knows the items.
 /// Closes the gaps among so many records at the front, and answers how many they are then.
 fn close_front<T: Stamped + Copy, R: Drops<T>>(places: &mut [T], used: usize, rule: &R) -> usize
     requires { used ≤ length places.old }

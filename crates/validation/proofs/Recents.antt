@@ -3,6 +3,7 @@ use Rattle.std.proofs.Common.{◌≡◌, ℕ, zero, suc, ◌+◌, ◌<◌, ◌�
 use Rattle.std.proofs.lemmas.List.{length_push, length-append, length-drop}
 use Rattle.std.proofs.lemmas.Bool.{lt-ltb, le-ltb, ltb-true, eq-eqb, ne_eqb, eqb-true, cases_lt, cases_eq, cases_Bool}
 use Rattle.stamped.specs.Gaps.{closed}
+use Rattle.std.specs.Option.{option_map, unwrap_or}
 use Rattle.std.specs.Result.{IsOk, OnOk}
 use Rattle.stamped.specs.Packing.{Packing, room as places_of}
 use Rattle.stamped.specs.Look.{Of, Last}
@@ -283,8 +284,12 @@ module _ (keys : ℕ) (es : List Entry) (left new : Packing Entry) (e : Entry) (
 
 -- what a look-up among the entries finds
 module _ (keys : ℕ) (es : List Entry) (once : Once keys es) (key : ℕ) where
-  pub found_some : (i : ℕ) → Last (λ e. Of key Now e.key e.stamp) es (Some i) → (get_or es i blank).stamp ≡ stamp_in es key
+  found_some : (i : ℕ) → Last (λ e. Of key Now e.key e.stamp) es (Some i) → (get_or es i blank).stamp ≡ stamp_in es key
   found_some i last = sym (stamp_at_place es i key blank last.0 (last.1 blank).0 (one_at_most keys es once key))
 
-  pub found_none : Last (λ e. Of key Now e.key e.stamp) es None → 0 ≡ stamp_in es key
+  found_none : Last (λ e. Of key Now e.key e.stamp) es None → 0 ≡ stamp_in es key
   found_none last = stamp_by (λ s. 0 ≡ s) es key refl (λ i in' is. absurd (last i blank (omega arith) in' (is, refl)))
+
+  pub found_stamp : (o : Option ℕ) (r : ℕ) → Last (λ e. Of key Now e.key e.stamp) es o → r ≡ unwrap_or (option_map (λ i. (get_or es i blank).stamp) o) 0 → r ≡ stamp_in es key
+  found_stamp (Some i) r last is = is ∙ found_some i last
+  found_stamp None r last is = is ∙ found_none last

@@ -42,7 +42,6 @@ impl ValidatorFault {
     {
         match *self {
             ValidatorFault::Keys(keys) => u64::from(keys),
-            // `u64` has no `From<usize>`.
             // Rust has no `From<usize> for u64`, and a length cannot fail to fit.
             ValidatorFault::Places(places) => places as u64,
             ValidatorFault::Grain(grain) => u64::from(grain),

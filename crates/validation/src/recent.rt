@@ -87,11 +87,7 @@ impl<'a> RecentList<'a> {
         ensures { result ≡ stamp_in self.now.entries.records key }
     {
         let entries = self.entries.as_slice();
-        let Some(i) = find_last(entries, key, Moment::Now) else {
-            // A key that has no entry was never noted, or trimmed since.
-            return 0;
-        };
-        entries[i].stamp
+        find_last(entries, key, Moment::Now).map_or(0, |i| entries[i].stamp)
     }
 }
 

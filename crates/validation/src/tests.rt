@@ -4,7 +4,7 @@ use crate::table::StampTable;
 use crate::validator::Validator;
 use std::process::Abort;
 
-/// An answer with the number and the place of its fault.
+/// An answer with the number and the place of its fault: what the rules say of a refusal, not what it is called.
 fn told<T: Drop>(answer: Result<T, ValidatorFault>) -> Result<T, (u8, u64)> {
     answer.map_err(|fault| (fault.number(), fault.place()))
 }

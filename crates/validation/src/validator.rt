@@ -16,6 +16,7 @@ pub trait Validator {
         ensures { result ≡ granule_answer (meaning self.now) key };
 
     /// Sets the stamp of the key's granule.
+    // Key and stamp stand apart in the interface of a validator; an `Entry` is how a list keeps them.
     fn note(&mut self, key: u16, stamp: u32) -> Result<(), ValidatorFault>
         ensures answer { result ≡ note_answer (meaning self.old) key stamp }
         ensures after { meaning self.new ≡ noted (meaning self.old) key stamp };

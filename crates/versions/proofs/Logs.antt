@@ -1,8 +1,9 @@
 -- A packed log: what it means, what a look-up in it finds, and one version more at its end.
-use Rattle.std.proofs.Common.{◌≡◌, ℕ, zero, suc, ◌+◌, ◌<◌, ◌≤◌, true, false, cond, eqb, List, [], ◌∷◌, ◌++◌, length, get_or, take, fold, Some, None, Ok, sym, refl, ap, ◌∙◌, ⊎_elim, append_assoc, append-nil, length-append, add-one, arith, ◌||◌, Result, Err, drop, length-drop, rules, ltb}
+use Rattle.std.proofs.Common.{◌≡◌, ℕ, zero, suc, ◌+◌, ◌<◌, ◌≤◌, true, false, cond, eqb, List, [], ◌∷◌, ◌++◌, length, get_or, take, fold, Some, None, Ok, sym, refl, ap, ◌∙◌, ⊎_elim, append_assoc, append-nil, length-append, add-one, arith, ◌||◌, Result, Err, drop, length-drop, rules, ltb, Option}
 use mathlib.Core.Path.{fun_ext}
 use Rattle.std.specs.List.{AllByRecursion, AllWithin}
 use Rattle.std.specs.Result.{is_ok, IsOk, OnOk, OnErr}
+use Rattle.std.specs.Option.{option_map, unwrap_or}
 use Rattle.std.proofs.lemmas.List.Sums.{fold_more, fold_push}
 use Rattle.std.proofs.lemmas.List.Elements.{All-push}
 use Rattle.std.proofs.lemmas.Bool.{cases_lt, eq-eqb, ne_eqb, eqb-true, lt-leb, cases_Bool, cases_eq, or_parts, ltb-false}
@@ -12,10 +13,12 @@ use Rattle.stamped.specs.declared.looking.Moment.{Moment}
 use Rattle.stamped.specs.Look.{counts, Of, Last}
 use Rattle.stamped.specs.Packing.{Packing, room}
 use Rattle.versions.specs.declared.store.Version.{Version}
-use Rattle.versions.specs.Meaning.{Lawful, first_by, newest, put, sum_below, set_up_answer}
+use Rattle.versions.specs.declared.fault.StoreFault.{StoreFault}
+use Rattle.versions.specs.declared.fault.StoreFault.TheVariants.{Full}
+use Rattle.versions.specs.Meaning.{Lawful, first_by, newest, put, sum_below, set_up_answer, add_answer, added}
 use Rattle.versions.specs.Log.{noted, versions_of, logged, Known, Falling, moment_answer, blank}
 use Rattle.versions.proofs.Lists.{sum_none, sum_one}
-use Rattle.versions.proofs.Meanings.{falls_more}
+use Rattle.versions.proofs.Meanings.{falls_more, add_full, add_fine, added_refused, added_done}
 
 -- what a look-up finds
 
@@ -54,17 +57,21 @@ module _ (log : List Version) (k : ℕ) (moment : Moment) where
   whole = ap (λ (l : List Version). first_by (counts moment) (versions_of l k)) (take_all (length log) log (omega arith))
 
   module _ (keys cells : ℕ) (known : k < keys) where
-    pub found_some : (i : ℕ) → Last (λ v. Of k moment v.key v.stamp) log (Some i) → Ok ((get_or log i blank).stamp, (get_or log i blank).value) ≡ moment_answer (logged keys cells log) k moment
+    found_some : (i : ℕ) → Last (λ v. Of k moment v.key v.stamp) log (Some i) → Ok ((get_or log i blank).stamp, (get_or log i blank).value) ≡ moment_answer (logged keys cells log) k moment
     found_some i l =
         let off = lt-leb keys k known in
         let e = sym whole ∙ passed (i + 1) (length log) (omega arith) (omega arith) l.2 ∙ hit i l.0 (l.1 blank) in
         rw (off, e) refl
 
-    pub found_none : Last (λ v. Of k moment v.key v.stamp) log None → Ok (0, 0) ≡ moment_answer (logged keys cells log) k moment
+    found_none : Last (λ v. Of k moment v.key v.stamp) log None → Ok (0, 0) ≡ moment_answer (logged keys cells log) k moment
     found_none l =
         let off = lt-leb keys k known in
         let e = sym whole ∙ passed 0 (length log) (omega arith) (omega arith) l in
         rw (off, e) refl
+
+    pub found_read : (o : Option ℕ) (r : ℕ × ℕ) → Last (λ v. Of k moment v.key v.stamp) log o → r ≡ unwrap_or (option_map (λ i. ((get_or log i blank).stamp, (get_or log i blank).value)) o) (0, 0) → Ok r ≡ moment_answer (logged keys cells log) k moment
+    found_read (Some i) r l is = rw is (found_some i l)
+    found_read None r l is = rw is (found_none l)
 
 -- the first record of a log is the oldest version of its key
 
@@ -193,13 +200,18 @@ module _ (keys : ℕ) (old new : Packing Version) (v : Version) (known : Known k
         lawful = log_lawful keys (record { records = old.records ++ v ∷ []; rest = drop 1 old.rest }) lawful.few_keys few (lawful.both ∙ ap (λ n. eqb n 0) (sym long)) more falling;
       })
 
-  pub push_full : (r : Result (Unit {0}) Version) → is_ok r ≡ false → (0 < length old.rest → IsOk r) → OnErr r (new ≡ old) → (length old.rest ≡ 0) × (new ≡ old)
-  push_full (Err e) no' fits full = (⊎_elim (λ (h : 0 < length old.rest). absurd (let z = fits h in search rules)) (λ (h : length old.rest ≤ 0). omega arith) (cases_lt 0 (length old.rest)), full)
-  push_full (Ok u) no' fits full = absurd (search rules)
-
-  pub push_done : (r : Result (Unit {0}) Version) → is_ok r ≡ true → (IsOk r → 0 < length old.rest) → OnOk r (new ≡ record { records = old.records ++ v ∷ []; rest = drop 1 old.rest }) → (0 < length old.rest) × (room new ≡ room old) × (new.records ≡ old.records ++ v ∷ [])
-  push_done (Err e) done fits pushed = absurd (search rules)
-  push_done (Ok u) done fits pushed =
-      let some = fits refl in
+  -- what such an add answers and leaves
+  pub push_told : (r : Result (Unit {0}) Version) (q : Result (Unit {0}) StoreFault) → (IsOk r → 0 < length old.rest) × (0 < length old.rest → IsOk r) → OnOk r (new ≡ record { records = old.records ++ v ∷ []; rest = drop 1 old.rest }) → OnErr r (new ≡ old) → q ≡ cond (is_ok r) (Ok tt) (Err (Full v.key)) → (q ≡ add_answer (logged keys (room old) old.records) v.key v.stamp) × (logged keys (room new) new.records ≡ added (logged keys (room old) old.records) v.key v.stamp v.value)
+  push_told (Err e) q fits pushed full is =
+      let m = logged keys (room old) old.records in
+      let none : length old.rest ≡ 0 = ⊎_elim (λ (h : 0 < length old.rest). absurd (let z = fits.1 h in search rules)) (λ (h : length old.rest ≤ 0). omega arith) (cases_lt 0 (length old.rest)) in
+      let all = kept_all keys old.records known in
+      let full-is = add_full m v.key v.stamp key later (omega (arith, all, none)) in
+      (is ∙ sym full-is, rw full (added_refused m v.key v.stamp v.value _ full-is))
+  push_told (Ok u) q fits pushed full is =
+      let m = logged keys (room old) old.records in
+      let some = fits.0 refl in
       let long : length (old.records ++ v ∷ []) + length (drop 1 old.rest) ≡ room old = simp (length-append, length-drop) (omega (arith, some)) in
-      (some, rw pushed long, ap (λ (p : Packing Version). p.records) pushed)
+      let all = kept_all keys old.records known in
+      let fine = add_fine m v.key v.stamp key later (omega (arith, all, some)) in
+      (is ∙ sym fine, rw (pushed, long) (logged_push old.records v keys (room old) ∙ added_done m v.key v.stamp v.value fine))

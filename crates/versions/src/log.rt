@@ -4,7 +4,7 @@ ghost use Rattle.versions.specs.Log.{logged, Known, superseded, moment_answer, b
 ghost use Rattle.versions.specs.Meaning.{Lawful, set_up_answer, made};
 
 use crate::fault::StoreFault;
-use crate::store::{MAX_CELLS, MAX_KEYS, Version, VersionStore};
+use crate::store::{Version, VersionStore, check_sizes};
 use stamped::closing::Drops;
 use stamped::looking::{Moment, find_last};
 use stamped::packed::Packed;
@@ -37,13 +37,7 @@ impl<'a> LogStore<'a> {
     pub fn check(keys: u16, cells: usize) -> Result<(), StoreFault>
         ensures { result ≡ set_up_answer keys cells }
     {
-        if keys == 0 || keys > MAX_KEYS {
-            return Err(StoreFault::Keys(keys));
-        }
-        if cells == 0 || cells > MAX_CELLS {
-            return Err(StoreFault::Cells(cells));
-        }
-        Ok(())
+        check_sizes(keys, cells)
     }
 
     /// An empty store over cleared cells; one without keys and cells where the check refuses.
@@ -73,11 +67,9 @@ impl<'a> LogStore<'a> {
             return Err(StoreFault::KeyOutside(key));
         }
         let log = self.versions.as_slice();
-        let Some(i) = find_last(log, key, moment) else {
-            // The base version.
-            return Ok((0, 0));
-        };
-        Ok((log[i].stamp, log[i].value))
+        let found = find_last(log, key, moment);
+        // Or else the base version.
+        Ok(found.map_or((0, 0), |i| (log[i].stamp, log[i].value)))
     }
 }
 
@@ -101,10 +93,9 @@ impl<'a> VersionStore for LogStore<'a> {
         if stamp <= newest {
             return Err(StoreFault::StaleStamp(key));
         }
-        if self.versions.push(Version { key, stamp, value }).is_err() {
-            return Err(StoreFault::Full(key));
-        }
-        Ok(())
+        self.versions
+            .push(Version { key, stamp, value })
+            .map_err(|_| StoreFault::Full(key))
     }
 
     fn prune(&mut self, horizon: u32) -> u16 {

@@ -1,5 +1,5 @@
 ghost use Rattle.std.specs.Prelude.{◌≡◌};
-ghost use Rattle.versions.specs.Meaning.{Meaning, Lawful, kept, free, newest_answer, as_of_answer, add_answer, added, pruned_count, pruned};
+ghost use Rattle.versions.specs.Meaning.{Meaning, Lawful, kept, free, newest_answer, as_of_answer, add_answer, added, pruned_count, pruned, set_up_answer};
 
 use crate::fault::StoreFault;
 pub use stamped::MAX_KEYS;
@@ -7,6 +7,19 @@ use stamped::Stamped;
 
 /// The most cells that a store has.
 pub const MAX_CELLS: usize = 2048;
+
+/// Whether a store can have so many keys and so many cells.
+pub fn check_sizes(keys: u16, cells: usize) -> Result<(), StoreFault>
+    ensures { result ≡ set_up_answer keys cells }
+{
+    if keys == 0 || keys > MAX_KEYS {
+        return Err(StoreFault::Keys(keys));
+    }
+    if cells == 0 || cells > MAX_CELLS {
+        return Err(StoreFault::Cells(cells));
+    }
+    Ok(())
+}
 
 /// A value of a key, and the tick at which it was committed.
 #[derive(Clone, Copy)]
@@ -56,6 +69,7 @@ pub trait VersionStore {
         ensures { result ≡ as_of_answer (meaning self.now) key tick };
 
     /// Puts a version at the front of its key's list.
+    // Key, stamp and value stand apart in the interface of a store; a `Version` is how a log keeps them.
     fn add(&mut self, key: u16, stamp: u32, value: u64) -> Result<(), StoreFault>
         ensures answer { result ≡ add_answer (meaning self.old) key stamp }
         ensures after { meaning self.new ≡ added (meaning self.old) key stamp value };

@@ -1,14 +1,14 @@
-use Rattle.validation.proofs.Recents.{found_some, found_none}
+use Rattle.std.proofs.Common.{rules, ◌≡◌, get_or}
+use Rattle.std.specs.Option.{option_map, unwrap_or}
+use Rattle.validation.specs.Recent.{Once, blank}
+use Rattle.validation.proofs.Recents.{found_stamp}
 use Rattle.validation.proofs.recent.RecentList.stamp_of.Goals as goal
-
-pub returns-in_default : goal.returns-in_default
-returns-in_default c =
-    let s = c.args.self.now in
-    let last = rw c.as_slice-entries.ensures at c.in_default.ensures in
-    found_none s.keys s.entries.records s.once c.args.key last
 
 pub returns : goal.returns
 returns c =
     let s = c.args.self.now in
-    let last = rw c.as_slice-entries.ensures at c.in-Some.ensures in
-    rw c.as_slice-entries.ensures (found_some s.keys s.entries.records s.once c.args.key c.in-Some.i last)
+    let entries = c.as_slice-entries.result.now in
+    let read : c.map_or.result ≡ unwrap_or (option_map (λ i. (get_or entries i blank).stamp) c.find_last.result) 0 = search rules in
+    let once : Once s.keys entries = rw c.as_slice-entries.ensures s.once in
+    let found = found_stamp s.keys entries once c.args.key c.find_last.result c.map_or.result c.find_last.ensures read in
+    rw c.as_slice-entries.ensures at found

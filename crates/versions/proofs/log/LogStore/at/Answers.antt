@@ -1,15 +1,14 @@
+use Rattle.std.proofs.Common.{rules, ◌≡◌, get_or}
+use Rattle.std.specs.Option.{option_map, unwrap_or}
 use Rattle.stamped.specs.Packing.{room}
-use Rattle.versions.proofs.Logs.{found_some, found_none}
+use Rattle.versions.specs.Log.{blank}
+use Rattle.versions.proofs.Logs.{found_read}
 use Rattle.versions.proofs.log.LogStore.at.Goals as goal
-
-pub returns-in_default : goal.returns-in_default
-returns-in_default c =
-    let s = c.args.self.now in
-    let found = found_none c.as_slice-log.result.now c.args.key c.args.moment s.keys (room s.versions) c.if-key-self.false c.in_default.ensures in
-    rw c.as_slice-log.ensures at found
 
 pub returns : goal.returns
 returns c =
     let s = c.args.self.now in
-    let found = found_some c.as_slice-log.result.now c.args.key c.args.moment s.keys (room s.versions) c.if-key-self.false c.in-Some.i c.in-Some.ensures in
-    rw c.as_slice-log.ensures (rw c.as_slice-log.ensures at found)
+    let log = c.as_slice-log.result.now in
+    let read : c.map_or.result ≡ unwrap_or (option_map (λ i. ((get_or log i blank).stamp, (get_or log i blank).value)) c.find_last-found.result) (0, 0) = search rules in
+    let found = found_read log c.args.key c.args.moment s.keys (room s.versions) c.if-key-self.false c.find_last-found.result c.map_or.result c.find_last-found.ensures read in
+    rw c.as_slice-log.ensures at found
