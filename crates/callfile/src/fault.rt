@@ -13,7 +13,7 @@ pub enum CallFault {
     Engine(Fault),
 }
 
-// The three that a fault of the ledger answers too: one that was carried up is asked in its turn.
+// The three that a fault of the ledger answers too: one that was carried up is asked in its turn. No code takes any fault.
 impl CallFault {
     pub fn layer(self) -> u8
         ensures { result ≡ (report self).layer }

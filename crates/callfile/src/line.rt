@@ -7,7 +7,7 @@ use crate::fault::CallFault;
 use ledger::Verdict;
 use std::fmt;
 
-/// What an accepted call did.
+/// What an accepted call did: an `Answer` that is no refusal, and how many values it left.
 #[derive(Clone, Copy)]
 pub enum Done {
     Began(u32),

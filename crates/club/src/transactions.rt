@@ -13,10 +13,10 @@ pub fn open<S: VersionStore, V: Validator>(
     count: u16,
     rounds: &mut [u64],
 ) -> Result<u32, Fault>
-    ensures { Makes S.VersionStore.meaning V.Validator.meaning engine.old engine.new (Opened first count rounds.old rounds.new result) }
+    ensures { Makes S.meaning V.meaning engine.old engine.new (Opened first count rounds.old rounds.new result) }
 {
     let handle = engine.begin(Kind::Updater)?;
-    // No `inspect_err`: the abort is a step of the transaction, and no closure's side effect.
+    // No `inspect_err`: with the abort in a closure, which was tried, the steps made did not prove.
     if let Err(fault) = engine.read(handle, first, count, rounds) {
         let _ = engine.abort(handle);
         return Err(fault);
@@ -31,7 +31,7 @@ pub fn finish<S: VersionStore, V: Validator>(
     key: u16,
     value: u64,
 ) -> Result<Verdict, Fault>
-    ensures { Makes S.VersionStore.meaning V.Validator.meaning engine.old engine.new (Finished handle key value result) }
+    ensures { Makes S.meaning V.meaning engine.old engine.new (Finished handle key value result) }
 {
     // No `inspect_err`, as in `open`.
     if let Err(fault) = engine.write(handle, key, value) {
@@ -47,7 +47,7 @@ pub fn post<S: VersionStore, V: Validator>(
     key: u16,
     value: u64,
 ) -> Result<Verdict, Fault>
-    ensures { Makes S.VersionStore.meaning V.Validator.meaning engine.old engine.new (Posted key value result) }
+    ensures { Makes S.meaning V.meaning engine.old engine.new (Posted key value result) }
 {
     let handle = engine.begin(Kind::Updater)?;
     finish(engine, handle, key, value)

@@ -36,7 +36,7 @@ abbrev pub ServesBare : {S V : Type 0} → (S → Store) → (V → Stamps) → 
 ServesBare m p e e' c a = (b : List ℕ) → Serves m p e e' c b a b
 
 -- an engine from a refused set-up touches neither store nor validator
--- not a part of Serves: joined to it, the check asks for an answer at each call that it now proves alone
+-- not a part of Serves, where it is no plainer: both have to be named, and each call's answer written out
 abbrev pub Idle : {S V : Type 0} → Engine S V → Engine S V → Type 0
 Idle e e' = e.table.last ≡ 0 → (e'.store ≡ e.store) × (e'.validator ≡ e.validator)
 

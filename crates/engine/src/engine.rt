@@ -11,7 +11,7 @@ ghost use Rattle.engine.specs.Fits.{Fits, limits_of};
 ghost use Rattle.engine.specs.SetUp.{set_up_answer, last_of};
 ghost use Rattle.engine.specs.Serves.{Serves, ServesBare, Idle, told};
 
-use ledger::{Call, Fault, Kind};
+use ledger::{Call, Fault, Kind, Range};
 use transaction_table::record::{Record, State};
 use transaction_table::table::Table;
 use validation::validator::Validator;
@@ -72,7 +72,7 @@ impl<S: VersionStore, V: Validator> Engine<S, V> {
     }
 
     /// Reads the values of count keys from the first on into the front of the buffer.
-    // First and count stand apart, as the caller of a call gives them; from here on they are a `Range`.
+    // First and count stand apart, as the caller of a call gives them; behind it they are a `Range`.
     pub fn read(
         &mut self,
         handle: u32,
@@ -87,11 +87,12 @@ impl<S: VersionStore, V: Validator> Engine<S, V> {
         let keys = self.store.keys();
         let record = &mut self.table.records[slot];
         record.take(Call::Read(handle, first, count), keys, buffer.len())?;
-        fill(&self.store, record, first, count, buffer);
+        fill(&self.store, record, Range { first, count }, buffer);
         Ok(())
     }
 
     /// Notes a value to be written to a key when the transaction is committed.
+    // Key and value stand apart, as the caller of a call gives them; behind it they are a `Write`.
     pub fn write(&mut self, handle: u32, key: u16, value: u64) -> Result<(), Fault>
         ensures serves { ServesBare S.meaning V.meaning self.old self.new (Write handle key value) (told (λ _. Wrote) result) }
         ensures idle { Idle self.old self.new }
@@ -119,17 +120,17 @@ impl<S: VersionStore, V: Validator> Engine<S, V> {
     }
 }
 
-/// Fills the front of the buffer with what the transaction reads at the keys from the first on.
-fn fill<S: VersionStore>(store: &S, taker: &Record, first: u16, count: u16, buffer: &mut [u64])
-    requires count_in_bounds { count ≤ length buffer.old }
-    requires count_bound { first + count < 2 ^ 16 }
-    ensures { buffer.new ≡ map (shown (S.meaning store.now) (view taker.now)) (keys_from first count) ++ drop count buffer.old }
+/// Fills the front of the buffer with what the transaction reads at the keys of the range.
+fn fill<S: VersionStore>(store: &S, taker: &Record, range: Range, buffer: &mut [u64])
+    requires count_in_bounds { range.count ≤ length buffer.old }
+    requires count_bound { range.first + range.count < 2 ^ 16 }
+    ensures { buffer.new ≡ map (shown (S.meaning store.now) (view taker.now)) (keys_from range.first range.count) ++ drop range.count buffer.old }
 {
     // No `zip` with the keys: of what a loop writes through a `zip` no proof knows the values.
-    let front = &mut buffer[..usize::from(count)];
+    let front = &mut buffer[..usize::from(range.count)];
     for (i, place) in front.iter_mut().enumerate() {
         // `u16` has no `From<usize>`; `i` is below the count.
-        *place = value_at(store, taker, first + i as u16);
+        *place = value_at(store, taker, range.first + i as u16);
     }
 }
 

@@ -20,6 +20,7 @@ pub struct Request {
 
 /// Makes one new engine and all the calls on it, in their order, and gives the engine back.
 /// The buffers lie one after another, each as long as its request says, while there are places.
+// The engine is made here, since the laws of a list of calls are of a new one.
 // One slice for them all: of buffers lent inside the requests a caller's proof would know the lengths alone afterwards.
 pub fn replay<S: VersionStore + Drop, V: Validator + Drop>(
     last: u32,

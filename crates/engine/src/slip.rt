@@ -72,6 +72,13 @@ impl<K> Slip<K> {
     }
 }
 
+/// A slip that lets its holder write: who names one shows that it is an updater's.
+#[derive(Drop)]
+pub struct Writing<'s, K: Leave> {
+    pub slip: &'s Slip<K>,
+    ghost updates: { K.KIND ≡ Updater },
+}
+
 impl<S: VersionStore, V: Validator> Engine<S, V> {
     /// Begins a transaction of the slip's kind.
     pub fn begin_slip<K: Leave>(&mut self) -> Result<Slip<K>, Fault>
@@ -100,11 +107,16 @@ impl<S: VersionStore, V: Validator> Engine<S, V> {
     }
 
     /// Only an updater's slip lets it write.
-    pub fn write_under(&mut self, slip: &Slip<Updating>, key: u16, value: u64) -> Result<(), Fault>
-        ensures serves { ServesBare S.meaning V.meaning self.old self.new (Write slip.now.handle key value) (told (λ _. Wrote) result) }
+    pub fn write_under<K: Leave>(
+        &mut self,
+        under: Writing<'_, K>,
+        key: u16,
+        value: u64,
+    ) -> Result<(), Fault>
+        ensures serves { ServesBare S.meaning V.meaning self.old self.new (Write under.entry.slip.now.handle key value) (told (λ _. Wrote) result) }
         ensures idle { Idle self.old self.new }
     {
-        self.write(slip.handle, key, value)
+        self.write(under.slip.handle, key, value)
     }
 
     /// Takes the slip, even if it refuses.

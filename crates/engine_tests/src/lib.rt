@@ -1,6 +1,6 @@
 //! Runs the engine on the stores and validators that there are, and holds its answers to the rules.
-//! Each test makes its store and validator itself: of a helper that makes a pair and hands it to a closure
-//! the check asks a proof by hand.
+//! Each test makes its store and validator itself: a helper that makes a pair and hands it to a closure was
+//! tried, and the closure's call did not prove.
 #![tactic(auto)]
 
 #[cfg(test)]

@@ -1,6 +1,6 @@
 use crate::calls::{ENTRY, VERSION};
 use engine::engine::Engine;
-use engine::slip::{Reading, Updating};
+use engine::slip::{Reading, Updating, Writing};
 use ledger::{Fault, Verdict};
 use std::process::Abort;
 use validation::recent::RecentList;
@@ -17,7 +17,7 @@ fn post<S: VersionStore, V: Validator>(
     let slip = engine.begin_slip::<Updating>()?;
     let mut old = [0];
     let read = engine.read_under(&slip, key, 1, &mut old);
-    let wrote = engine.write_under(&slip, key, value);
+    let wrote = engine.write_under(Writing { slip: &slip }, key, value);
     let verdict = engine.commit_under(slip)?;
     read?;
     wrote?;

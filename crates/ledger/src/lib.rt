@@ -53,6 +53,7 @@ pub enum Call {
     Reclaim,
 }
 
+// An enum of its own and no `Result`: a refusal is an answer that a history is told by, as any other.
 #[derive(Clone, Copy, Debug, PartialEq)]
 pub enum Answer {
     Began(u32),
@@ -78,6 +79,7 @@ pub struct Write {
     pub value: u64,
 }
 
+// Methods of its own: no code takes any fault, and a trait for them would need a crate below the ledger.
 impl Fault {
     pub fn layer(self) -> u8
         ensures { result ≡ (reported self).layer }

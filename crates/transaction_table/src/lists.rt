@@ -44,6 +44,7 @@ impl<T: Copy, const N: usize> Bounded<T, N> {
     ghost use Rattle.transaction_table.specs.Bounded.{held, push_room, pushed};
 
     /// A list without items; until there are any, its places have this one.
+    // Each instance has a `new` that gives it, so that the ledger's structs need no `Default`.
     pub fn empty(filler: T) -> Self
         ensures { held result ≡ [] }
     {

@@ -122,6 +122,7 @@ impl Trial<'_> {
         Ok(tally)
     }
 
+    // The two differ in the memory that they lend. Each tells one run: a fact of what it did.
     fn over_log<V: Validator + Drop>(self, validator: V) -> io::Result<Tally>
         ensures { IfOk result (λ t. t.runs ≡ 1) }
     {

@@ -5,4 +5,4 @@ use Rattle.engine.proofs.Fills.{fill_more}
 use Rattle.engine.proofs.engine.fill.Goals as goal
 
 pub loop-i-preserved : goal.loop-i-preserved
-loop-i-preserved g c = fill_more (shown (g.S.VersionStore.meaning c.args.store.now) (view c.args.taker.now)) c.args.first c.loop-i.i _ (take c.from.result c.args.buffer.now) c.loop-i.front (omega (arith, c.loop-i-test.true)) c.loop-i.invariant c.value_at.ensures
+loop-i-preserved g c = fill_more (shown (g.S.VersionStore.meaning c.args.store.now) (view c.args.taker.now)) c.args.range.first c.loop-i.i _ (take c.from.result c.args.buffer.now) c.loop-i.front (omega (arith, c.loop-i-test.true)) c.loop-i.invariant c.value_at.ensures
