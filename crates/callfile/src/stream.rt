@@ -42,6 +42,7 @@ pub fn run<S: VersionStore + Drop, V: Validator + Drop, R: Read + Drop, W: Write
 fn read_record<R: Read>(input: &mut R, bytes: &mut [u8]) -> io::Result<usize>
     ensures { IfOk result (λ n. n ≤ length bytes.old) }
 {
+    // A loop over what is left: `read_exact` does not tell how many bytes of a short record came.
     let size = bytes.len();
     let mut rest = bytes;
     while !rest.is_empty() {

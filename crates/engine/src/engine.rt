@@ -32,6 +32,7 @@ pub struct Engine<S, V> {
     table: Table,
 }
 
+// `Idle` stands at each call: a fact of the step, and of no engine by itself.
 impl<S: VersionStore, V: Validator> Engine<S, V> {
     /// Whether an engine can be made of these.
     // The three travel together only as far as `make`, and the struct of them is what it makes.

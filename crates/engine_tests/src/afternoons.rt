@@ -109,7 +109,7 @@ fn handicaps<S: VersionStore + Drop, V: Validator + Drop>(rt: &impl Abort, store
     assert_eq!(rt; buffers, [23]);
 }
 
-// Each test lends its own memory to a pair of a store and a validator, so the pairs are not one function.
+// Each test lends its own memory to a pair: a helper that makes a pair and hands it to a closure did not prove.
 #[test]
 fn a_report_on_log_and_stamps(rt: HostRuntime) {
     let mut cells = [VERSION; 8];

@@ -1,4 +1,5 @@
-//! Records that carry a key and a stamp: one look-up and one closing of gaps over lent slices, for every kind of them.
+//! Records that carry a key and a stamp: one look-up, one closing of gaps and one packed list over lent slices,
+//! for every kind of them.
 #![tactic(auto)]
 
 pub mod closing;

@@ -134,6 +134,7 @@ impl Record {
 fn readable(range: Range, keys: u16, room: usize) -> Result<(), Fault>
     ensures { result ≡ range_answer keys room range.first range.count }
 {
+    // One comparison, with a fault of its own, as in a validator: a function for it would be no plainer.
     if u32::from(range.first) + u32::from(range.count) > u32::from(keys) {
         return Err(Fault::KeyOutside(range.first));
     }

@@ -86,6 +86,7 @@ impl<'a> Validator for StampTable<'a> {
         count: u16,
         start: u32,
     ) -> Result<Option<(u16, u32)>, ValidatorFault> {
+        // One comparison, with a fault of its own: a function for it would be no plainer.
         if u32::from(first) + u32::from(count) > u32::from(self.keys) {
             return Err(ValidatorFault::KeyOutside(first));
         }

@@ -14,6 +14,7 @@ use transaction_table::record::{Record, State};
 use validation::validator::Validator;
 use versions::store::VersionStore;
 
+// `Idle`, and that the table stays as it was, are facts of the step, and of no engine by itself.
 impl<S: VersionStore, V: Validator> Engine<S, V> {
     /// Removes the versions that no transaction reads, now or later, and answers how many.
     pub fn reclaim(&mut self) -> u16
