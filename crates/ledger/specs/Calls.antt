@@ -24,6 +24,7 @@ pub record Outcome : Type 0 where
 abbrev pub refused : Ledger → List ℕ → Fault → Outcome
 refused l b f = record { answer = Refused f; buffer = b; ledger = l }
 
+-- the ledger with other active transactions
 abbrev pub with_active : Ledger → List Transaction → Ledger
 with_active l ts = record { limits = l.limits; clock = l.clock; active = ts; versions = l.versions; trimmed = l.trimmed }
 
@@ -45,6 +46,7 @@ in_table l k n = nat_le (k + n) l.limits.keys
 
 -- Begin
 
+-- a transaction that has just begun: nothing read, nothing written
 abbrev pub fresh : ℕ → Kind → Transaction
 fresh s kind = record { start = s; kind = kind; reads = []; writes = [] }
 
@@ -52,6 +54,7 @@ fresh s kind = record { start = s; kind = kind; reads = []; writes = [] }
 abbrev pub opened : Ledger → Kind → Ledger
 opened l kind = record { limits = l.limits; clock = l.clock + 1; active = fresh (l.clock + 1) kind ∷ l.active; versions = l.versions; trimmed = l.trimmed }
 
+-- begin: 16 active are refused, then a spent clock; else the next tick is start and handle
 abbrev pub begin_call : Ledger → List ℕ → Kind → Outcome
 begin_call l b kind =
     cond (nat_le 16 (length l.active)) (refused l b TooManyActive)
@@ -69,6 +72,7 @@ abbrev pub keys_from : ℕ → ℕ → List ℕ
 keys_from k zero = []
 keys_from k (suc n) = k ∷ keys_from (k + 1) n
 
+-- this very first key and count
 abbrev pub same_range : ℕ → ℕ → Range → Bool
 same_range k n r = r.first == k && r.count == n
 
@@ -76,9 +80,11 @@ same_range k n r = r.first == k && r.count == n
 abbrev pub joins : Transaction → ℕ → ℕ → Bool
 joins t k n = not (is_reader t.kind) && (nat_lt 0 n && not (any (same_range k n) t.reads))
 
+-- the transaction once its read list has the range, if it joins
 abbrev pub joined : Transaction → ℕ → ℕ → Transaction
 joined t k n = cond (joins t k n) (record { start = t.start; kind = t.kind; reads = t.reads ++ (record { first = k; count = n } ∷ []); writes = t.writes }) t
 
+-- a read by the transaction found: each refusal in its turn; else the values go to the front of the buffer
 abbrev pub read_by : Ledger → List ℕ → ℕ → ℕ → ℕ → Option Transaction → Outcome
 read_by l b h k n None = refused l b (NoTransaction h)
 read_by l b h k n (Some t) =
@@ -91,15 +97,18 @@ read_by l b h k n (Some t) =
       ledger = with_active l (changed l.active h (λ u. joined u k n));
     })))
 
+-- read: by the active transaction that has the handle
 abbrev pub read_call : Ledger → List ℕ → ℕ → ℕ → ℕ → Outcome
 read_call l b h k n = read_by l b h k n (found l.active h)
 
 -- Write
 
+-- whether there is one
 abbrev pub is_some : {X : Type 0} → Option X → Bool
 is_some None = false
 is_some (Some x) = true
 
+-- the transaction with the write in its list
 abbrev pub wrote : Transaction → ℕ → ℕ → Transaction
 wrote t k x = record { start = t.start; kind = t.kind; reads = t.reads; writes = written t.writes k x }
 
@@ -107,6 +116,7 @@ wrote t k x = record { start = t.start; kind = t.kind; reads = t.reads; writes =
 abbrev pub no_room : Transaction → ℕ → Bool
 no_room t k = not (is_some (own_write k t.writes)) && nat_le 32 (length t.writes)
 
+-- a write by the transaction found: each refusal in its turn; else it is noted, and the buffer is left
 abbrev pub write_by : Ledger → List ℕ → ℕ → ℕ → ℕ → Option Transaction → Outcome
 write_by l b h k x None = refused l b (NoTransaction h)
 write_by l b h k x (Some t) =
@@ -115,6 +125,7 @@ write_by l b h k x (Some t) =
     (cond (no_room t k) (refused l b (WriteListFull h))
     (record { answer = Wrote; buffer = b; ledger = with_active l (changed l.active h (λ u. wrote u k x)) })))
 
+-- write: by the active transaction that has the handle
 abbrev pub write_call : Ledger → List ℕ → ℕ → ℕ → ℕ → Outcome
 write_call l b h k x = write_by l b h k x (found l.active h)
 
@@ -130,6 +141,7 @@ reclaimed l = record {
   trimmed = max l.trimmed (trim_tick l);
 }
 
+-- reclaim: how many versions are newly marked removed
 abbrev pub reclaim_call : Ledger → List ℕ → Outcome
 reclaim_call l b = record { answer = Reclaimed (dead_count l); buffer = b; ledger = reclaimed l }
 
@@ -150,6 +162,7 @@ abbrev pub first_clash : (ℕ → ℕ) → List Version → ℕ → List ℕ →
 first_clash g vs s [] = None
 first_clash g vs s (k ∷ ks) = cond (nat_lt s (granule_stamp g k vs)) (Some (k, granule_stamp g k vs)) (first_clash g vs s ks)
 
+-- the first clash of an updater, told from all versions ever committed
 abbrev pub clash : Ledger → Transaction → Option (ℕ × ℕ)
 clash l t = first_clash l.limits.granule l.versions t.start (read_keys t.reads)
 
@@ -181,6 +194,7 @@ judged_by l b t None =
     (cond (too_full l (length t.writes)) (ended l b t.start (Full (length t.writes) (free l)))
     (record { answer = Ended (Committed (l.clock + 1)); buffer = b; ledger = installed l t }))
 
+-- the verdict on an updater, and what it leaves
 abbrev pub judged : Ledger → List ℕ → Transaction → Outcome
 judged l b t = judged_by l b t (clash l t)
 
@@ -191,15 +205,18 @@ commit_by l b h (Some t) =
     cond (is_reader t.kind) (ended l b h Closed)
     (cond (nat_lt (free l) (length t.writes)) (judged (reclaimed l) b t) (judged l b t))
 
+-- commit: of the active transaction that has the handle
 abbrev pub commit_call : Ledger → List ℕ → ℕ → Outcome
 commit_call l b h = commit_by l b h (found l.active h)
 
 -- Abort
 
+-- an abort of the transaction found: it ends, and nothing else changes
 abbrev pub abort_by : Ledger → List ℕ → ℕ → Option Transaction → Outcome
 abort_by l b h None = refused l b (NoTransaction h)
 abort_by l b h (Some t) = record { answer = Aborted; buffer = b; ledger = with_active l (without l.active h) }
 
+-- abort: of the active transaction that has the handle
 abbrev pub abort_call : Ledger → List ℕ → ℕ → Outcome
 abort_call l b h = abort_by l b h (found l.active h)
 

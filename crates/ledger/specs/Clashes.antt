@@ -39,6 +39,7 @@ abbrev pub commit_into : (ℕ → ℕ) → ℕ → List Made → ℕ
 commit_into g k [] = 0
 commit_into g k (m ∷ ms) = max (tick_into g k (commit_of m.call m.answer) ms) (commit_into g k ms)
 
+-- the updater placed there wrote into the granule of the key
 abbrev pub into : (ℕ → ℕ) → ℕ → Option (ℕ × ℕ) → List Made → Bool
 into g k None ms = false
 into g k (Some c) ms = sets_in g k (acts c.1 ms)

@@ -153,6 +153,7 @@ write_list_full =
     asks (Begin Updater) (Began 1)
     ∷ fill 32 0 (asks (Write 1 32 7) (Refused (WriteListFull 1)) ∷ fill 1 31 [])
 
+-- a reader writes, a buffer is short, a key is off the table, a handle has ended
 abbrev pub refusals : List Made
 refusals =
     asks (Begin Reader) (Began 1)
@@ -172,6 +173,7 @@ set_up_wrongly =
     ∷ asks Reclaim (Reclaimed 0)
     ∷ []
 
+-- all the worked examples: each list of calls is answered as it says
 pub record Examples : Type 0 where
   pub an_afternoon : Plays (club 256 4294967294) listing
   pub spent : Plays (club 256 1) only_tick

@@ -3,6 +3,7 @@ use Rattle.std.specs.Prelude.{ℕ, List, ◌++◌, codes, decimal}
 use Rattle.ledger.specs.declared.Fault.{Fault}
 use Rattle.ledger.specs.declared.Fault.TheVariants.{LastTick, KeyOutside, ShortBuffer, NotFresh, NoTransaction, ReaderWrites, TooManyActive, ClockSpent, ReadListFull, WriteListFull}
 
+-- what a refusal says: who refuses, why, and at what
 pub record Report : Type 0 where
   pub layer : ℕ
   pub number : ℕ
@@ -12,6 +13,7 @@ pub record Report : Type 0 where
 abbrev pub layer_three : ℕ → ℕ → Report
 layer_three n p = record { layer = 3; number = n; place = p }
 
+-- the report of each fault
 abbrev pub reported : Fault → Report
 -- the last tick is outside 1 to 4,294,967,294: the place is that tick
 reported (LastTick z) = layer_three 2 z

@@ -28,6 +28,7 @@ abbrev pub Told : Limits → List Made → Type 0
 Told n [] = Unit {0}
 Told n (m ∷ ms) = (m.answer ≡ (step (after n ms) m.call m.given).answer) × (m.left ≡ (step (after n ms) m.call m.given).buffer) × Told n ms
 
+-- an answer that is no refusal
 abbrev pub accepted : Answer → Bool
 accepted (Began t) = true
 accepted ReadDone = true
@@ -44,9 +45,11 @@ pub data Act : Type 0 where
   looks : ℕ → ℕ → Act
   sets : ℕ → ℕ → Act
 
+-- the one thing where the test holds, and else nothing
 abbrev pub when : {X : Type 0} → Bool → X → List X
 when b x = cond b (x ∷ []) []
 
+-- what one accepted call does for the transaction with this handle: it looks at a range, or sets a key
 abbrev pub act_of : ℕ → Call → Bool → List Act
 act_of h (Begin kind) ok = []
 act_of h (Read g k n) ok = when (g == h && ok) (looks k n)
@@ -60,6 +63,7 @@ abbrev pub acts : ℕ → List Made → List Act
 acts h [] = []
 acts h (m ∷ ms) = acts h ms ++ act_of h m.call (accepted m.answer)
 
+-- what one accepted read of the transaction with this handle left at the front of its buffer
 abbrev pub saw_in : ℕ → Call → Bool → List ℕ → List (List ℕ)
 saw_in h (Begin kind) ok b = []
 saw_in h (Read g k n) ok b = when (g == h && ok) (take n b)
@@ -99,6 +103,7 @@ committed_at Aborted = None
 committed_at (Reclaimed n) = None
 committed_at (Refused f) = None
 
+-- this tick, where there is one
 abbrev pub is_tick : ℕ → Option ℕ → Bool
 is_tick t None = false
 is_tick t (Some s) = s == t
@@ -107,6 +112,7 @@ is_tick t (Some s) = s == t
 abbrev pub begins : ℕ → Made → Bool
 begins h m = is_tick h (began_at m.answer)
 
+-- a commit or an abort of the transaction with this handle
 abbrev pub ends_by : ℕ → Call → Bool
 ends_by h (Begin kind) = false
 ends_by h (Read g k n) = false
@@ -119,6 +125,7 @@ ends_by h Reclaim = false
 abbrev pub ends : ℕ → Made → Bool
 ends h m = ends_by h m.call && accepted m.answer
 
+-- an accepted begin of the updater with this handle
 abbrev pub begins_updater : ℕ → Call → Answer → Bool
 begins_updater h (Begin Reader) a = false
 begins_updater h (Begin Updater) a = is_tick h (began_at a)
@@ -135,10 +142,12 @@ updater_in h (m ∷ ms) = begins_updater h m.call m.answer || updater_in h ms
 
 -- The serial order: a reader stands at its start tick, an updater that was answered committed at that tick
 
+-- the tick at which a transaction stands, beside its handle
 abbrev pub with_handle : ℕ → Option ℕ → Option (ℕ × ℕ)
 with_handle h None = None
 with_handle h (Some t) = Some (t, h)
 
+-- a reader stands at its start, which is its handle
 abbrev pub own_handle : Option ℕ → Option (ℕ × ℕ)
 own_handle None = None
 own_handle (Some t) = Some (t, t)
@@ -153,6 +162,7 @@ placed (Commit g) a = with_handle g (committed_at a)
 placed (Abort g) a = None
 placed Reclaim a = None
 
+-- the handle of who stands at the tick, or else what the rest says
 abbrev pub at_tick : ℕ → Option (ℕ × ℕ) → Option ℕ → Option ℕ
 at_tick t None rest = rest
 at_tick t (Some p) rest = cond (p.0 == t) (Some p.1) rest
@@ -164,6 +174,7 @@ stands_at (m ∷ ms) t = at_tick t (placed m.call m.answer) (stands_at ms t)
 
 -- Reclaims
 
+-- a reclaim, and no other call
 abbrev pub is_reclaim : Call → Bool
 is_reclaim (Begin kind) = false
 is_reclaim (Read g k n) = false

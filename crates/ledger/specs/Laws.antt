@@ -54,6 +54,7 @@ live_count l = length (filter (λ v. not (dead l v)) l.versions)
 abbrev pub crowded : Ledger → Transaction → Bool
 crowded l t = not (is_some (clash l t)) && (not (out_of_ticks l) && nat_lt l.limits.cells (live_count l + length t.writes))
 
+-- the numbers of the verdict full where the live versions and the writes exceed the cells, and else none
 abbrev pub full_if_crowded : Ledger → Transaction → Option (ℕ × ℕ)
 full_if_crowded l t = cond (crowded l t) (Some (length t.writes, l.limits.cells - live_count l)) None
 
@@ -74,21 +75,27 @@ pub record Lawful (n : Limits) (ms : List Made) (newest : ℕ → ℕ) : Type 0 
 
 -- The laws, of every history that the ledger tells
 
+-- every told history is serial, with the newest values at its end
 abbrev pub SerialLaw : Type 0
 SerialLaw = (n : Limits) (ms : List Made) → Told n ms → Serial n ms (λ k. newest_value k (after n ms).versions)
 
+-- every told history keeps real time
 abbrev pub TimeLaw : Type 0
 TimeLaw = (n : Limits) (ms : List Made) → Told n ms → KeepsTime ms
 
+-- in every told history reclaims move nothing
 abbrev pub ReclaimLaw : Type 0
 ReclaimLaw = (n : Limits) (ms : List Made) → Told n ms → Unmoved n ms
 
+-- in every told history restarts are as the history says
 abbrev pub RestartLaw : Type 0
 RestartLaw = (n : Limits) (ms : List Made) → Told n ms → Restarts n ms
 
+-- in every told history full is said only if it must be
 abbrev pub FullLaw : Type 0
 FullLaw = (n : Limits) (ms : List Made) → Told n ms → Fulls n ms
 
+-- every told history has all five
 abbrev pub Law : Type 0
 Law = (n : Limits) (ms : List Made) → Told n ms → Lawful n ms (λ k. newest_value k (after n ms).versions)
 
@@ -104,6 +111,7 @@ abbrev pub drawn : List Made → List ℕ
 drawn [] = []
 drawn (m ∷ ms) = (tick_in (began_at m.answer) ++ tick_in (committed_at m.answer)) ++ drawn ms
 
+-- n, n - 1, .. 1
 abbrev pub down_from : ℕ → List ℕ
 down_from zero = []
 down_from (suc n) = suc n ∷ down_from n

@@ -27,6 +27,7 @@ pub record Version : Type 0 where
   pub value : ℕ
   pub present : Bool
 
+-- what a club has: its limits, its clock, the active transactions and every version ever committed
 pub record Ledger : Type 0 where
   pub limits : Limits
   -- the last tick drawn
@@ -37,6 +38,7 @@ pub record Ledger : Type 0 where
   -- the greatest tick trimmed at
   pub trimmed : ℕ
 
+-- nothing has begun, and nothing is committed
 abbrev pub new_ledger : Limits → Ledger
 new_ledger n = record { limits = n; clock = 0; active = []; versions = []; trimmed = 0 }
 
@@ -51,6 +53,7 @@ abbrev pub found : List Transaction → ℕ → Option Transaction
 found [] h = None
 found (t ∷ ts) h = cond (t.start == h) (Some t) (found ts h)
 
+-- a reader, and no updater
 abbrev pub is_reader : Kind → Bool
 is_reader Reader = true
 is_reader Updater = false
@@ -70,6 +73,7 @@ trim_tick l = least_start (λ k. not (is_reader k)) (l.clock + 1) l.active
 
 -- Versions
 
+-- whether one passes the test
 abbrev pub any : {X : Type 0} → (X → Bool) → List X → Bool
 any p [] = false
 any p (x ∷ xs) = p x || any p xs
@@ -82,6 +86,7 @@ superseded vs h v = any (λ w. (w.key == v.key) && (nat_lt v.stamp w.stamp && na
 abbrev pub dead : Ledger → Version → Bool
 dead l v = superseded l.versions (horizon l) v
 
+-- how many versions are present
 abbrev pub present_count : Ledger → ℕ
 present_count l = length (filter (λ v. v.present) l.versions)
 

@@ -25,6 +25,7 @@ pub record Fine (n : Limits) (clock : ℕ) (t : Transaction) : Type 0 where
   pub distinct : Distinct t.writes
   pub reads_only : is_reader t.kind ≡ true → (t.reads ≡ []) × (t.writes ≡ [])
 
+-- the active transactions: each in order, no two with one start, 16 at most
 pub record Sound (l : Ledger) : Type 0 where
   pub fine : AllByRecursion (Fine l.limits l.clock) l.active
   pub apart : Apart l.active
@@ -40,6 +41,7 @@ abbrev pub Strict : List Version → Type 0
 Strict [] = Unit {0}
 Strict (v ∷ vs) = AllByRecursion (λ w. w.key ≡ v.key → w.stamp < v.stamp) vs × Strict vs
 
+-- the clock within its limit; stamps above 0 and at most the clock, of keys of the table, newest first, each key's strictly falling
 pub record Dated (l : Ledger) : Type 0 where
   pub ticks : l.clock ≤ l.limits.last
   pub late : AllByRecursion (λ v. 0 < v.stamp) l.versions
@@ -50,6 +52,7 @@ pub record Dated (l : Ledger) : Type 0 where
   -- a start is no stamp
   pub unlike : AllByRecursion (λ t. AllByRecursion (λ v. v.stamp ≢ t.start) l.versions) l.active
 
+-- what reclaims leave: removed versions are dead, present ones have a cell each, and no stamp is trimmed that an active updater needs
 pub record Tidy (l : Ledger) : Type 0 where
   pub removed : AllByRecursion (λ v. v.present ≡ false → dead l v ≡ true) l.versions
   pub cells : present_count l ≤ l.limits.cells
@@ -57,6 +60,7 @@ pub record Tidy (l : Ledger) : Type 0 where
   pub trims : AllByRecursion (λ t. is_reader t.kind ≡ false → l.trimmed ≤ t.start) l.active
   pub trimmed_by : l.trimmed ≤ l.clock + 1
 
+-- what holds of every ledger that calls lead to
 pub record Orderly (l : Ledger) : Type 0 where
   pub sound : Sound l
   pub dated : Dated l

@@ -12,6 +12,7 @@ abbrev pub act : Act → Table → Table
 act (looks k n) v = v
 act (sets k x) v = λ j. cond (j == k) x (v j)
 
+-- the table once these acts are done on it, one after another
 abbrev pub run : List Act → Table → Table
 run [] v = v
 run (a ∷ more) v = run more (act a v)
@@ -26,6 +27,7 @@ abbrev pub run_reads : List Act → Table → List (List ℕ)
 run_reads [] v = []
 run_reads (a ∷ more) v = gives a v ++ run_reads more (act a v)
 
+-- the acts of who stands there, if anyone does
 abbrev pub acts_of : Option ℕ → List Made → List Act
 acts_of None ms = []
 acts_of (Some h) ms = acts h ms
