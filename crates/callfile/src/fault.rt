@@ -5,7 +5,7 @@ ghost use Rattle.callfile.specs.Faults.{report};
 use ledger::Fault;
 
 /// Why a record of a call file is refused.
-#[derive(Clone, Copy)]
+#[derive(Clone, Copy, PartialEq)]
 pub enum CallFault {
     /// The record with this number is malformed.
     Malformed(u64),

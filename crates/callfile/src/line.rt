@@ -29,8 +29,8 @@ pub struct Line<'a> {
 
 /// A space before each value.
 #[derive(Clone, Copy)]
-struct Spaced<'a> {
-    values: &'a [u64],
+pub struct Spaced<'a> {
+    pub values: &'a [u64],
 }
 
 impl fmt::Display for Spaced<'_> {

@@ -1,3 +1,5 @@
 mod Makings
 mod Means
+mod Recalculations
 mod Texts
+mod Words

@@ -1,7 +1,10 @@
 //! The transactions that a club's events are made of, on any engine.
-ghost use Rattle.club.specs.Transactions.{Makes, Opened, Finished, Posted};
+ghost use Rattle.club.specs.Transactions.{Makes, Opened, Finished, Posted, Corrected, WorkedOut, Redid, Listed, Shown};
 
+use crate::index::index_of;
+use crate::said::{KEYS, Recalculation, Redone, Said};
 use engine::engine::Engine;
+use engine::slip::Reading;
 use ledger::{Fault, Kind, Verdict};
 use validation::validator::Validator;
 use versions::store::VersionStore;
@@ -51,4 +54,76 @@ pub fn post<S: VersionStore, V: Validator>(
 {
     let handle = engine.begin(Kind::Updater)?;
     finish(engine, handle, key, value)
+}
+
+/// Posts the right value of a card: an updater that reads the key and writes it.
+pub fn correct<S: VersionStore, V: Validator>(
+    engine: &mut Engine<S, V>,
+    key: u16,
+    value: u64,
+) -> Result<Said, Fault>
+    ensures { Makes S.meaning V.meaning engine.old engine.new (Corrected key value result) }
+{
+    let mut old = [0];
+    let handle = open(engine, key, 1, &mut old)?;
+    let end = finish(engine, handle, key, value);
+    Ok(Said::Correction(key, value, old[0], end))
+}
+
+/// Reads the rounds of a recalculation, and works out the index to write.
+pub fn work_out<S: VersionStore, V: Validator>(
+    engine: &mut Engine<S, V>,
+    first: u16,
+    count: u16,
+    index: u16,
+) -> Result<Recalculation, Fault>
+    ensures { Makes S.meaning V.meaning engine.old engine.new (WorkedOut first count index result) }
+{
+    let mut rounds = [0; KEYS as usize];
+    let handle = open(engine, first, count, &mut rounds)?;
+    let used = usize::from(count).min(rounds.len());
+    let value = index_of(&rounds[..used]);
+    Ok(Recalculation {
+        handle,
+        first,
+        count,
+        index,
+        value,
+    })
+}
+
+/// Does a recalculation again, from its begin to its commit.
+pub fn redo<S: VersionStore, V: Validator>(
+    engine: &mut Engine<S, V>,
+    work: Recalculation,
+) -> Result<Redone, Fault>
+    ensures { Makes S.meaning V.meaning engine.old engine.new (Redid work result) }
+{
+    let work = work_out(engine, work.first, work.count, work.index)?;
+    let end = finish(engine, work.handle, work.index, work.value);
+    Ok(Redone { work, end })
+}
+
+/// The club list: a reader with a slip in hand, which has to be given up.
+pub fn list<S: VersionStore, V: Validator>(engine: &mut Engine<S, V>) -> Result<Said, Fault>
+    ensures { Makes S.meaning V.meaning engine.old engine.new (Listed result) }
+{
+    let mut values = [0; KEYS as usize];
+    let slip = engine.begin_slip::<Reading>()?;
+    let read = engine.read_under(&slip, 0, KEYS, &mut values);
+    let _ = engine.commit_under(slip);
+    read?;
+    Ok(Said::Values(values))
+}
+
+/// The club list that an open report shows.
+pub fn show<S: VersionStore, V: Validator>(
+    engine: &mut Engine<S, V>,
+    report: u32,
+) -> Result<Said, Fault>
+    ensures { Makes S.meaning V.meaning engine.old engine.new (Shown report result) }
+{
+    let mut values = [0; KEYS as usize];
+    engine.read(report, 0, KEYS, &mut values)?;
+    Ok(Said::Values(values))
 }

@@ -1,0 +1,135 @@
+//! What an event did, as a value that two engines' answers are compared by, and its words.
+ghost use Rattle.std.specs.Prelude.{Some};
+ghost use Rattle.club.specs.Texts.{told_text, verdict_text, recalculation_text, redone_text, said_text};
+
+use callfile::line::Spaced;
+use ledger::{Fault, Verdict};
+use std::fmt;
+
+/// The keys of the club's table, all of which a list shows.
+// Lengths of arrays are `KEYS as usize`, since no conversion by `From` can stand there.
+pub const KEYS: u16 = 8;
+
+/// A recalculation that has read its rounds and not yet written its index.
+#[derive(Clone, Copy, PartialEq)]
+pub struct Recalculation {
+    pub handle: u32,
+    pub first: u16,
+    pub count: u16,
+    pub index: u16,
+    pub value: u64,
+}
+
+/// A recalculation that was done again, and how that ended.
+#[derive(Clone, Copy, PartialEq)]
+pub struct Redone {
+    pub work: Recalculation,
+    pub end: Result<Verdict, Fault>,
+}
+
+/// What an event did.
+#[derive(Clone, Copy, PartialEq)]
+pub enum Said {
+    /// Key, value and end.
+    Card(u16, u64, Result<Verdict, Fault>),
+    /// Key, value, the value before and end.
+    Correction(u16, u64, u64, Result<Verdict, Fault>),
+    Recalculation(Recalculation),
+    AlreadyOpen,
+    NoneOpen,
+    Ended(Verdict),
+    /// Key and stamp of the clash, and how the second try went.
+    Restarted(u16, u32, Result<Redone, Fault>),
+    Values([u64; KEYS as usize]),
+    Report(u32),
+    Removed(u16),
+}
+
+/// An answer, or why it was refused, as it is printed.
+#[derive(Drop, PartialEq)]
+pub struct Told<T, E>(pub Result<T, E>);
+
+impl<T: fmt::Display, E: fmt::Display> fmt::Display for Told<T, E> {
+    ghost output = { λ t. told_text T.output E.output t.0 };
+
+    fn fmt<W: fmt::Write>(&self, f: &mut fmt::Formatter<W>) -> fmt::Result {
+        match &self.0 {
+            Ok(answer) => write!(f, "{answer}"),
+            Err(fault) => write!(f, "refused {fault}"),
+        }
+    }
+}
+
+/// How a transaction ended, as it is printed.
+#[derive(Drop)]
+struct Ended(Verdict);
+
+impl fmt::Display for Ended {
+    ghost output = { λ e. Some (verdict_text e.0) };
+
+    fn fmt<W: fmt::Write>(&self, f: &mut fmt::Formatter<W>) -> fmt::Result {
+        match self.0 {
+            Verdict::Closed => write!(f, "closed"),
+            Verdict::Restart(key, stamp) => {
+                write!(f, "restarted by the commit at tick {stamp} on key {key}")
+            }
+            Verdict::Spent => write!(f, "spent: no tick is left"),
+            Verdict::Full(writes, free) => write!(f, "full: {writes} to write, {free} free"),
+            Verdict::Committed(tick) => write!(f, "committed at tick {tick}"),
+        }
+    }
+}
+
+impl fmt::Display for Recalculation {
+    ghost output = { λ w. Some (recalculation_text w) };
+
+    fn fmt<W: fmt::Write>(&self, f: &mut fmt::Formatter<W>) -> fmt::Result {
+        let Recalculation {
+            handle,
+            count,
+            index,
+            value,
+            ..
+        } = *self;
+        write!(
+            f,
+            "recalculation {handle} read {count} rounds: index {value} for key {index}"
+        )
+    }
+}
+
+impl fmt::Display for Redone {
+    ghost output = { λ d. Some (redone_text d) };
+
+    fn fmt<W: fmt::Write>(&self, f: &mut fmt::Formatter<W>) -> fmt::Result {
+        let Redone { work, end } = *self;
+        write!(f, "{work}, {}", Told(end.map(Ended)))
+    }
+}
+
+impl fmt::Display for Said {
+    ghost output = { λ s. Some (said_text s) };
+
+    fn fmt<W: fmt::Write>(&self, f: &mut fmt::Formatter<W>) -> fmt::Result {
+        match self {
+            Said::Card(key, value, end) => {
+                write!(f, "card {value} for key {key}: {}", Told(end.map(Ended)))
+            }
+            Said::Correction(key, value, was, end) => {
+                let end = Told(end.map(Ended));
+                write!(f, "card {value} for key {key} in place of {was}: {end}")
+            }
+            Said::Recalculation(work) => write!(f, "{work}"),
+            Said::AlreadyOpen => write!(f, "a recalculation is open already"),
+            Said::NoneOpen => write!(f, "no recalculation is open"),
+            Said::Ended(verdict) => write!(f, "{}", Ended(*verdict)),
+            Said::Restarted(key, stamp, again) => {
+                let restart = Ended(Verdict::Restart(*key, *stamp));
+                write!(f, "{restart}; again: {}", Told(*again))
+            }
+            Said::Values(values) => write!(f, "values{}", Spaced { values }),
+            Said::Report(handle) => write!(f, "report {handle} opened"),
+            Said::Removed(count) => write!(f, "{count} versions removed"),
+        }
+    }
+}
