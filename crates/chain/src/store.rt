@@ -2,7 +2,6 @@ ghost use Rattle.std.specs.Prelude.{◌≡◌, ◌+◌, ◌≤◌, length, repli
 ghost use Rattle.versions.specs.Meaning.{kept, made};
 ghost use Rattle.chain.specs.Links.{Ends, before, laid};
 ghost use Rattle.chain.specs.Store.{chained, ChainsEnd, NoneShared, AllHeld, Falling, chain_set_up, head_answer};
-ghost use Rattle.chain.specs.Laws.{chain_lawful};
 
 use crate::cell::{Cell, Link};
 use crate::links::{link_all, prune_chains, push, version, version_below};
@@ -28,6 +27,8 @@ pub struct ChainStore<'h, 'c> {
 }
 
 impl<'h, 'c> ChainStore<'h, 'c> {
+    ghost use Rattle.chain.specs.ChainStores.{heads_of, cells_of, unused_of, chain_meaning};
+
     /// Whether a chain store can be made with so many keys over so many heads and cells.
     pub fn check(keys: u16, heads: usize, cells: usize) -> Result<(), StoreFault>
         ensures { result ≡ chain_set_up keys heads cells }
@@ -41,9 +42,9 @@ impl<'h, 'c> ChainStore<'h, 'c> {
 
     /// An empty store with all cells cleared and unused; one without keys and cells where the check refuses.
     pub fn make(keys: u16, heads: &'h mut [Link], cells: &'c mut [Cell]) -> ChainStore<'h, 'c>
-        ensures empty { chained result.heads.now result.cells.now ≡ made (chain_set_up keys (length heads.old) (length cells.old)) keys (length cells.old) }
-        ensures cleared { (result.heads.now ≡ replicate (length result.heads.now) None) × (result.cells.now ≡ laid (length result.cells.now)) }
-        ensures unused { result.unused ≡ before (length result.cells.now) }
+        ensures empty { chain_meaning result ≡ made (chain_set_up keys (length heads.old) (length cells.old)) keys (length cells.old) }
+        ensures cleared { (heads_of result ≡ replicate (length (heads_of result)) None) × (cells_of result ≡ laid (length (cells_of result))) }
+        ensures unused { unused_of result ≡ before (length (cells_of result)) }
     {
         heads.fill(None);
         if Self::check(keys, heads.len(), cells.len()).is_err() {
@@ -67,7 +68,7 @@ impl<'h, 'c> ChainStore<'h, 'c> {
 
     /// Where the key's chain begins.
     fn head(&self, key: u16) -> Result<Link, StoreFault>
-        ensures { result ≡ head_answer self.now.heads.now key }
+        ensures { result ≡ head_answer (heads_of self.now) key }
     {
         self.heads
             .get(usize::from(key))
@@ -77,9 +78,11 @@ impl<'h, 'c> ChainStore<'h, 'c> {
 }
 
 impl<'h, 'c> VersionStore for ChainStore<'h, 'c> {
-    ghost meaning = { λ s. chained s.heads.now s.cells.now };
+    ghost use Rattle.chain.specs.ChainStores.{chain_meaning, store_lawful};
 
-    ghost lawful = { λ s. chain_lawful s.heads.now s.cells.now s.unused s.few s.small s.both (record { chains = s.chains; rest = s.rest; shared = s.shared; held = s.held }) s.falling };
+    ghost meaning = { chain_meaning };
+
+    ghost lawful = { store_lawful };
 
     // `u16` has no `From<usize>`: here and below the ghost fields show that the number fits.
     fn keys(&self) -> u16 {

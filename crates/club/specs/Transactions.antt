@@ -1,5 +1,5 @@
 -- Which calls the transactions of a club's afternoon make, and what they answer.
-use Rattle.std.specs.Prelude.{◌≡◌, ℕ, List, [], ◌∷◌, ◌++◌, get_or, replicate, take, Ok, Err, Result}
+use Rattle.std.specs.Prelude.{◌≡◌, ℕ, List, [], ◌∷◌, ◌++◌, replicate, slice_index, take, Ok, Err, Result}
 use Rattle.ledger.specs.declared.Kind.TheVariants.{Reader, Updater}
 use Rattle.ledger.specs.declared.Call.TheVariants.{Begin, Read, Write, Commit, Abort}
 use Rattle.ledger.specs.declared.Fault.{Fault}
@@ -8,11 +8,10 @@ use Rattle.ledger.specs.declared.Answer.{Answer}
 use Rattle.ledger.specs.declared.Answer.TheVariants.{Began, Read as ReadDone, Wrote, Ended, Refused}
 use Rattle.ledger.specs.Ledger.{Limits}
 use Rattle.ledger.specs.History.{Made}
-use Rattle.ledger.specs.Laws.{Lawful}
 use Rattle.versions.specs.Meaning.{Meaning as Store}
 use Rattle.validation.specs.Meaning.{Meaning as Stamps}
 use Rattle.engine.specs.declared.engine.Engine.{Engine}
-use Rattle.engine.specs.Serves.{Led, made, newest_in, told}
+use Rattle.engine.specs.Serves.{Led, Lawfully, made, told}
 use Rattle.club.specs.declared.said.Recalculation.{Recalculation}
 use Rattle.club.specs.declared.said.Redone.{Redone}
 use Rattle.club.specs.declared.said.Said.{Said}
@@ -21,7 +20,7 @@ use Rattle.club.specs.Indexes.{index}
 
 -- these calls lead from e to e', the newest first: every history that led to e goes on with them, leads to e' and is lawful
 pub record Leads {S V : Type 0} (m : S → Store) (p : V → Stamps) (e e' : Engine S V) (ns : List Made) : Type 0 where
-  pub on : (n : Limits) (ms : List Made) → Led m p n ms e → Led m p n (ns ++ ms) e' × Lawful n (ns ++ ms) (newest_in (m e'.store))
+  pub on : (n : Limits) (ms : List Made) → Led m p n ms e → Lawfully m p n (ns ++ ms) e'
 
 -- from e to e' calls were made of which P holds
 pub record Makes {S V : Type 0} (m : S → Store) (p : V → Stamps) (e e' : Engine S V) (P : List Made → Type 0) : Type 0 where
@@ -48,7 +47,7 @@ pub data Posted (k x : ℕ) : Result Verdict Fault → List Made → Type 0 wher
 -- Read a key's value and write x in its place: open it, and finish it.
 pub data Corrected (k x : ℕ) : Result Said Fault → List Made → Type 0 where
   not_opened : (f : Fault) (b : List ℕ) (ns : List Made) → Opened k 1 (0 ∷ []) b (Err f) ns → Corrected k x (Err f) ns
-  corrected : (h : ℕ) (b : List ℕ) (r : Result Verdict Fault) (ns ms : List Made) → Opened k 1 (0 ∷ []) b (Ok h) ns → Finished h k x r ms → Corrected k x (Ok (Correction k x (get_or b 0 0) r)) (ms ++ ns)
+  corrected : (h : ℕ) (b : List ℕ) (r : Result Verdict Fault) (ns ms : List Made) → Opened k 1 (0 ∷ []) b (Ok h) ns → Finished h k x r ms → Corrected k x (Ok (Correction k x (slice_index b 0) r)) (ms ++ ns)
 
 -- what a buffer for all the club's keys holds at first
 abbrev pub blank : List ℕ

@@ -9,8 +9,8 @@ use Rattle.validation.specs.Meaning.{Meaning as Stamps}
 use Rattle.engine.specs.declared.engine.Engine.{Engine}
 use Rattle.engine.specs.declared.replay.Request.{Request}
 use Rattle.engine.specs.Fits.{Fits}
-use Rattle.engine.specs.Serves.{GoesOn, made}
-use Rattle.engine.specs.Replays.{beyond, onto, wish, Lawfully, Each, Replayed}
+use Rattle.engine.specs.Serves.{Lawfully, GoesOn, made}
+use Rattle.engine.specs.Replays.{beyond, onto, wish, Each, Replayed}
 use Rattle.engine.proofs.Goings.{lawful_in}
 
 head_same : {X : Type 0} (x y : X) (xs ys : List X) → x ∷ xs ≡ y ∷ ys → (x ≡ y) × (xs ≡ ys)

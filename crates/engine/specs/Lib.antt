@@ -3,5 +3,6 @@ pub mod Fits
 pub mod SetUp
 pub mod Endings
 pub mod Verdicts
+pub mod Parts
 pub mod Serves
 pub mod Replays

@@ -3,12 +3,11 @@ use Rattle.std.specs.Prelude.{◌≡◌, ℕ, List, [], ◌∷◌, map, take, dr
 use Rattle.ledger.specs.declared.Call.{Call}
 use Rattle.ledger.specs.Ledger.{Limits}
 use Rattle.ledger.specs.History.{Made}
-use Rattle.ledger.specs.Laws.{Lawful}
 use Rattle.versions.specs.Meaning.{Meaning as Store}
 use Rattle.validation.specs.Meaning.{Meaning as Stamps}
 use Rattle.engine.specs.declared.engine.Engine.{Engine}
 use Rattle.engine.specs.declared.replay.Request.{Request}
-use Rattle.engine.specs.Serves.{Led, made, newest_in}
+use Rattle.engine.specs.Serves.{Lawfully, made}
 
 -- the buffers lie one after another: that of a request is the next places, as many as it has room for
 abbrev pub beyond : List Request → List ℕ → List ℕ
@@ -23,10 +22,6 @@ onto ms (q ∷ qs) (r ∷ rs) bs cs = onto (made q.call (take q.room bs) r.answe
 
 abbrev pub wish : Request → Call × ℕ
 wish r = (r.call, r.room)
-
--- the history led to the engine, and is lawful
-abbrev pub Lawfully : {S V : Type 0} → (S → Store) → (V → Stamps) → Limits → List Made → Engine S V → Type 0
-Lawfully m p n ms e = Led m p n ms e × Lawful n ms (newest_in (m e.store))
 
 -- so it was with the history and an engine, and with each of its beginnings
 abbrev pub Each : {S V : Type 0} → (S → Store) → (V → Stamps) → Limits → List Made → Type 0

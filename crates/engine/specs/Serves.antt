@@ -48,9 +48,13 @@ Led m p n ms e = Told n ms × Fits (after n ms) e.table (m e.store) (p e.validat
 abbrev pub newest_in : Store → ℕ → ℕ
 newest_in s k = (newest (s.versions k)).1
 
+-- the history led to the engine, and is lawful
+abbrev pub Lawfully : {S V : Type 0} → (S → Store) → (V → Stamps) → Limits → List Made → Engine S V → Type 0
+Lawfully m p n ms e = Led m p n ms e × Lawful n ms (newest_in (m e.store))
+
 abbrev pub made : Call → List ℕ → Answer → List ℕ → Made
 made c b a b' = record { call = c; given = b; answer = a; left = b' }
 
 -- each history that led to the engine before the call leads on, with this call, to the engine after it, and is lawful
 abbrev pub GoesOn : {S V : Type 0} → (S → Store) → (V → Stamps) → Engine S V → Engine S V → Call → List ℕ → Answer → List ℕ → Type 0
-GoesOn m p e e' c b a b' = (n : Limits) (ms : List Made) → Led m p n ms e → Led m p n (made c b a b' ∷ ms) e' × Lawful n (made c b a b' ∷ ms) (newest_in (m e'.store))
+GoesOn m p e e' c b a b' = (n : Limits) (ms : List Made) → Led m p n ms e → Lawfully m p n (made c b a b' ∷ ms) e'

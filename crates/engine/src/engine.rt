@@ -2,12 +2,12 @@ ghost use Rattle.std.specs.Prelude.{◌≡◌, ◌+◌, ◌^◌, ◌<◌, ◌≤
 ghost use Rattle.ledger.specs.declared.Call.TheVariants.{Begin, Read, Write, Abort};
 ghost use Rattle.ledger.specs.declared.Answer.TheVariants.{Began, Read as ReadDone, Wrote, Aborted};
 ghost use Rattle.ledger.specs.declared.Fault.TheVariants.{NoTransaction};
-ghost use Rattle.ledger.specs.Ledger.{new_ledger, found};
+ghost use Rattle.ledger.specs.Ledger.{found};
 ghost use Rattle.ledger.specs.Calls.{keys_from};
 ghost use Rattle.transaction_table.specs.View.{view, active_of};
 ghost use Rattle.transaction_table.specs.Places.{begin_answer, Here};
 ghost use Rattle.engine.specs.Shows.{shown, value_in};
-ghost use Rattle.engine.specs.Fits.{Fits, limits_of};
+ghost use Rattle.engine.specs.Parts.{store_of, validator_of, table_of, FitsNew};
 ghost use Rattle.engine.specs.SetUp.{set_up_answer, last_of};
 ghost use Rattle.engine.specs.Serves.{Serves, ServesBare, Idle, told};
 
@@ -50,10 +50,10 @@ impl<S: VersionStore, V: Validator> Engine<S, V> {
 
     /// An engine on which no call was made yet; one without keys, cells and ticks where the check refuses.
     pub fn make(last: u32, store: S, validator: V) -> Engine<S, V>
-        ensures store { result.store ≡ store }
-        ensures validator { result.validator ≡ validator }
-        ensures last { result.table.last ≡ last_of last (S.meaning store) (V.meaning validator) }
-        ensures fits { Fits (new_ledger (limits_of result.table.last (S.meaning result.store) (V.meaning result.validator))) result.table (S.meaning result.store) (V.meaning result.validator) }
+        ensures store { store_of result ≡ store }
+        ensures validator { validator_of result ≡ validator }
+        ensures last { (table_of result).last ≡ last_of last (S.meaning store) (V.meaning validator) }
+        ensures fits { FitsNew S.meaning V.meaning result }
     {
         let last = Self::check(last, &store, &validator).map_or(0, |()| last);
         Engine {
@@ -65,7 +65,7 @@ impl<S: VersionStore, V: Validator> Engine<S, V> {
 
     /// Begins a transaction, and gives its handle.
     pub fn begin(&mut self, kind: Kind) -> Result<u32, Fault>
-        ensures answer { result ≡ begin_answer self.old.table }
+        ensures answer { result ≡ begin_answer (table_of self.old) }
         ensures serves { ServesBare S.meaning V.meaning self.old self.new (Begin kind) (told Began result) }
         ensures idle { Idle self.old self.new }
     {

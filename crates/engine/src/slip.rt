@@ -4,6 +4,7 @@ ghost use Rattle.ledger.specs.declared.Kind.{Kind};
 ghost use Rattle.ledger.specs.declared.Kind.TheVariants.{Reader, Updater};
 ghost use Rattle.ledger.specs.declared.Call.TheVariants.{Begin, Read, Write, Commit, Abort};
 ghost use Rattle.ledger.specs.declared.Answer.TheVariants.{Began, Read as ReadDone, Wrote, Ended, Aborted};
+ghost use Rattle.engine.specs.Parts.{handle_of};
 ghost use Rattle.engine.specs.Serves.{Serves, ServesBare, Idle, told};
 
 use crate::engine::Engine;
@@ -48,7 +49,7 @@ pub struct Slip<K> {
 
 impl<K> Drop for Slip<K> {
     fn drop(self)
-        requires { self.handle ≡ 0 }
+        requires { handle_of self ≡ 0 }
     {
         let Slip {
             handle: _,
@@ -59,13 +60,13 @@ impl<K> Drop for Slip<K> {
 
 impl<K> Slip<K> {
     pub fn handle(&self) -> u32
-        ensures { result ≡ self.now.handle }
+        ensures { result ≡ handle_of self.now }
     {
         self.handle
     }
 
     fn spent(self) -> u32
-        ensures { result ≡ self.handle }
+        ensures { result ≡ handle_of self }
     {
         let Slip { handle, leave: _ } = self;
         handle
@@ -82,8 +83,8 @@ pub struct Writing<'s, K: Leave> {
 impl<S: VersionStore, V: Validator> Engine<S, V> {
     /// Begins a transaction of the slip's kind.
     pub fn begin_slip<K: Leave>(&mut self) -> Result<Slip<K>, Fault>
-        ensures serves { ServesBare S.meaning V.meaning self.old self.new (Begin K.KIND) (told (λ s. Began s.handle) result) }
-        ensures held { IfOk result (λ s. 0 < s.handle) }
+        ensures serves { ServesBare S.meaning V.meaning self.old self.new (Begin K.KIND) (told (λ s. Began (handle_of s)) result) }
+        ensures held { IfOk result (λ s. 0 < handle_of s) }
         ensures idle { Idle self.old self.new }
     {
         let handle = self.begin(K::KIND)?;
@@ -100,7 +101,7 @@ impl<S: VersionStore, V: Validator> Engine<S, V> {
         count: u16,
         buffer: &mut [u64],
     ) -> Result<(), Fault>
-        ensures serves { Serves S.meaning V.meaning self.old self.new (Read slip.now.handle first count) buffer.old (told (λ _. ReadDone) result) buffer.new }
+        ensures serves { Serves S.meaning V.meaning self.old self.new (Read (handle_of slip.now) first count) buffer.old (told (λ _. ReadDone) result) buffer.new }
         ensures idle { Idle self.old self.new }
     {
         self.read(slip.handle, first, count, buffer)
@@ -113,7 +114,7 @@ impl<S: VersionStore, V: Validator> Engine<S, V> {
         key: u16,
         value: u64,
     ) -> Result<(), Fault>
-        ensures serves { ServesBare S.meaning V.meaning self.old self.new (Write under.entry.slip.now.handle key value) (told (λ _. Wrote) result) }
+        ensures serves { ServesBare S.meaning V.meaning self.old self.new (Write (handle_of under.entry.slip.now) key value) (told (λ _. Wrote) result) }
         ensures idle { Idle self.old self.new }
     {
         self.write(under.slip.handle, key, value)
@@ -121,7 +122,7 @@ impl<S: VersionStore, V: Validator> Engine<S, V> {
 
     /// Takes the slip, even if it refuses.
     pub fn commit_under<K>(&mut self, slip: Slip<K>) -> Result<Verdict, Fault>
-        ensures serves { ServesBare S.meaning V.meaning self.old self.new (Commit slip.handle) (told Ended result) }
+        ensures serves { ServesBare S.meaning V.meaning self.old self.new (Commit (handle_of slip)) (told Ended result) }
         ensures idle { Idle self.old self.new }
     {
         self.commit(slip.spent())
@@ -129,7 +130,7 @@ impl<S: VersionStore, V: Validator> Engine<S, V> {
 
     /// Takes the slip, even if it refuses.
     pub fn abort_under<K>(&mut self, slip: Slip<K>) -> Result<(), Fault>
-        ensures serves { ServesBare S.meaning V.meaning self.old self.new (Abort slip.handle) (told (λ _. Aborted) result) }
+        ensures serves { ServesBare S.meaning V.meaning self.old self.new (Abort (handle_of slip)) (told (λ _. Aborted) result) }
         ensures idle { Idle self.old self.new }
     {
         self.abort(slip.spent())

@@ -1,5 +1,7 @@
 pub mod Faults
 pub mod Meaning
 pub mod SetUp
+pub mod RecentLists
+pub mod StampTables
 pub mod Table
 pub mod Recent

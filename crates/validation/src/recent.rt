@@ -1,4 +1,3 @@
-ghost use Rattle.std.proofs.Common.{rules};
 ghost use Rattle.std.specs.Prelude.{◌≡◌, ◌≤◌, [], length, replicate, ◌==◌, nat_lt};
 ghost use Rattle.stamped.specs.Packing.{room};
 ghost use Rattle.validation.specs.Recent.{listed, stamp_in, Once, blank};
@@ -50,6 +49,8 @@ pub struct RecentList<'a> {
 }
 
 impl<'a> RecentList<'a> {
+    ghost use Rattle.validation.specs.RecentLists.{entries_of, places_behind, list_meaning};
+
     /// Whether a list can be made of so many keys over so many places.
     pub fn check(keys: u16, places: usize) -> Result<(), ValidatorFault>
         ensures { result ≡ list_answer keys places }
@@ -65,9 +66,9 @@ impl<'a> RecentList<'a> {
 
     /// An empty list over cleared entries; one without keys where the check refuses.
     pub fn make(keys: u16, entries: &'a mut [Entry]) -> RecentList<'a>
-        ensures fresh { listed result.keys result.entries.records ≡ made (list_answer keys (length entries.old)) keys (λ k. k) }
-        ensures none { result.entries.records ≡ [] }
-        ensures clear { result.entries.rest ≡ replicate (length result.entries.rest) blank }
+        ensures fresh { list_meaning result ≡ made (list_answer keys (length entries.old)) keys (λ k. k) }
+        ensures none { entries_of result ≡ [] }
+        ensures clear { places_behind result ≡ replicate (length (places_behind result)) blank }
     {
         entries.fill(Entry::CLEARED);
         if Self::check(keys, entries.len()).is_err() {
@@ -84,7 +85,7 @@ impl<'a> RecentList<'a> {
 
     /// The stamp of a key's entry, or 0 where it has none.
     fn stamp_of(&self, key: u16) -> u32
-        ensures { result ≡ stamp_in self.now.entries.records key }
+        ensures { result ≡ stamp_in (entries_of self.now) key }
     {
         let entries = self.entries.as_slice();
         find_last(entries, key, Moment::Now).map_or(0, |i| entries[i].stamp)
@@ -92,9 +93,11 @@ impl<'a> RecentList<'a> {
 }
 
 impl<'a> Validator for RecentList<'a> {
-    ghost meaning = { λ l. listed l.keys l.entries.records };
+    ghost use Rattle.validation.specs.RecentLists.{list_meaning, list_lawful};
 
-    ghost lawful = { Prim.search rules };
+    ghost meaning = { list_meaning };
+
+    ghost lawful = { list_lawful };
 
     fn keys(&self) -> u16 {
         self.keys

@@ -1,4 +1,3 @@
-ghost use Rattle.std.proofs.Common.{rules};
 ghost use Rattle.std.specs.Prelude.{◌≡◌, ◌/◌, ◌<◌, ◌≤◌, length, replicate};
 ghost use Rattle.validation.specs.SetUp.{granules, table_answer, made};
 ghost use Rattle.validation.specs.Table.{tabled};
@@ -18,6 +17,8 @@ pub struct StampTable<'a> {
 }
 
 impl<'a> StampTable<'a> {
+    ghost use Rattle.validation.specs.StampTables.{stamps_of, table_meaning};
+
     /// Whether a table can be made of so many keys, so many to a granule, over so many places.
     pub fn check(keys: u16, grain: u16, places: usize) -> Result<(), ValidatorFault>
         ensures { result ≡ table_answer keys grain places }
@@ -36,8 +37,8 @@ impl<'a> StampTable<'a> {
 
     /// A table of cleared stamps; one without keys where the check refuses.
     pub fn make(keys: u16, grain: u16, stamps: &'a mut [u32]) -> StampTable<'a>
-        ensures fresh { tabled result.keys result.grain result.stamps.now ≡ made (table_answer keys grain (length stamps.old)) keys (λ k. k / grain) }
-        ensures clear { result.stamps.now ≡ replicate (length result.stamps.now) 0 }
+        ensures fresh { table_meaning result ≡ made (table_answer keys grain (length stamps.old)) keys (λ k. k / grain) }
+        ensures clear { stamps_of result ≡ replicate (length (stamps_of result)) 0 }
     {
         stamps.fill(0);
         if Self::check(keys, grain, stamps.len()).is_err() {
@@ -56,9 +57,11 @@ impl<'a> StampTable<'a> {
 }
 
 impl<'a> Validator for StampTable<'a> {
-    ghost meaning = { λ t. tabled t.keys t.grain t.stamps.now };
+    ghost use Rattle.validation.specs.StampTables.{table_meaning, table_lawful};
 
-    ghost lawful = { Prim.search rules };
+    ghost meaning = { table_meaning };
+
+    ghost lawful = { table_lawful };
 
     fn keys(&self) -> u16 {
         self.keys

@@ -33,6 +33,8 @@ pub struct LogStore<'a> {
 }
 
 impl<'a> LogStore<'a> {
+    ghost use Rattle.versions.specs.LogStores.{log_of, cells_behind, log_meaning};
+
     /// Whether a log store can be made with so many keys over so many cells.
     pub fn check(keys: u16, cells: usize) -> Result<(), StoreFault>
         ensures { result ≡ set_up_answer keys cells }
@@ -42,9 +44,9 @@ impl<'a> LogStore<'a> {
 
     /// An empty store over cleared cells; one without keys and cells where the check refuses.
     pub fn make(keys: u16, cells: &'a mut [Version]) -> LogStore<'a>
-        ensures empty { logged result.keys (room result.versions) result.versions.records ≡ made (set_up_answer keys (length cells.old)) keys (length cells.old) }
-        ensures none { result.versions.records ≡ [] }
-        ensures cleared { result.versions.rest ≡ replicate (length result.versions.rest) blank }
+        ensures empty { log_meaning result ≡ made (set_up_answer keys (length cells.old)) keys (length cells.old) }
+        ensures none { log_of result ≡ [] }
+        ensures cleared { cells_behind result ≡ replicate (length (cells_behind result)) blank }
     {
         cells.fill(Version::CLEARED);
         if Self::check(keys, cells.len()).is_err() {
@@ -61,7 +63,7 @@ impl<'a> LogStore<'a> {
 
     /// Stamp and value of the key's newest version that counts at the moment.
     fn at(&self, key: u16, moment: Moment) -> Result<(u32, u64), StoreFault>
-        ensures { result ≡ moment_answer (logged self.now.keys (room self.now.versions) self.now.versions.records) key moment }
+        ensures { result ≡ moment_answer (log_meaning self.now) key moment }
     {
         if key >= self.keys {
             return Err(StoreFault::KeyOutside(key));
@@ -74,7 +76,9 @@ impl<'a> LogStore<'a> {
 }
 
 impl<'a> VersionStore for LogStore<'a> {
-    ghost meaning = { λ s. logged s.keys (room s.versions) s.versions.records };
+    ghost use Rattle.versions.specs.LogStores.{log_meaning};
+
+    ghost meaning = { log_meaning };
 
     fn keys(&self) -> u16 {
         self.keys

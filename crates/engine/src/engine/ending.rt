@@ -6,6 +6,7 @@ ghost use Rattle.validation.specs.Meaning.{clash_answer};
 ghost use Rattle.transaction_table.specs.View.{ranges};
 ghost use Rattle.engine.specs.Endings.{named, first_named, all_added, all_noted};
 ghost use Rattle.engine.specs.Verdicts.{MakesRoom, Judges};
+ghost use Rattle.engine.specs.Parts.{table_of};
 ghost use Rattle.engine.specs.Serves.{ServesBare, Idle, told};
 
 use super::Engine;
@@ -19,8 +20,8 @@ impl<S: VersionStore, V: Validator> Engine<S, V> {
     /// Removes the versions that no transaction reads, now or later, and answers how many.
     pub fn reclaim(&mut self) -> u16
         ensures serves { ServesBare S.meaning V.meaning self.old self.new Reclaim (Reclaimed result) }
-        ensures table { self.new.table ≡ self.old.table }
-        ensures idle { self.old.table.last ≡ 0 → (result ≡ 0) × (self.new ≡ self.old) }
+        ensures table { table_of self.new ≡ table_of self.old }
+        ensures idle { (table_of self.old).last ≡ 0 → (result ≡ 0) × (self.new ≡ self.old) }
     {
         // Made from what its check refuses, an engine touches neither store nor validator.
         if self.table.last == 0 {

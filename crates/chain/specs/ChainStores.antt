@@ -1,0 +1,24 @@
+-- What a chain store shows, and that every one is lawful.
+use Rattle.std.specs.Prelude.{ℕ, List, Option}
+use Rattle.versions.specs.Meaning.{Meaning, Lawful}
+use Rattle.chain.specs.declared.cell.Cell.{Cell}
+use Rattle.chain.specs.declared.store.ChainStore.{ChainStore}
+use Rattle.chain.specs.Store.{chained}
+use Rattle.chain.specs.Laws.{chain_lawful}
+
+-- where each key's chain begins
+abbrev pub heads_of : ChainStore → List (Option ℕ)
+heads_of s = s.heads.now
+
+abbrev pub cells_of : ChainStore → List Cell
+cells_of s = s.cells.now
+
+-- where the chain of the unused cells begins
+abbrev pub unused_of : ChainStore → Option ℕ
+unused_of s = s.unused
+
+abbrev pub chain_meaning : ChainStore → Meaning
+chain_meaning s = chained (heads_of s) (cells_of s)
+
+pub store_lawful : (s : ChainStore) → Lawful (chain_meaning s)
+store_lawful s = chain_lawful s.heads.now s.cells.now s.unused s.few s.small s.both (record { chains = s.chains; rest = s.rest; shared = s.shared; held = s.held }) s.falling

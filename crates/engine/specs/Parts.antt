@@ -1,0 +1,27 @@
+-- What an engine is made of, and what a slip holds.
+use Rattle.std.specs.Prelude.{ℕ}
+use Rattle.ledger.specs.Ledger.{new_ledger}
+use Rattle.versions.specs.Meaning.{Meaning as Store}
+use Rattle.validation.specs.Meaning.{Meaning as Stamps}
+use Rattle.transaction_table.specs.declared.table.Table.{Table}
+use Rattle.engine.specs.declared.engine.Engine.{Engine}
+use Rattle.engine.specs.declared.slip.Slip.{Slip}
+use Rattle.engine.specs.Fits.{Fits, limits_of}
+
+abbrev pub store_of : {S V : Type 0} → Engine S V → S
+store_of e = e.store
+
+abbrev pub validator_of : {S V : Type 0} → Engine S V → V
+validator_of e = e.validator
+
+-- its clock and its active transactions
+abbrev pub table_of : {S V : Type 0} → Engine S V → Table
+table_of e = e.table
+
+-- the new ledger of its limits fits the engine
+abbrev pub FitsNew : {S V : Type 0} → (S → Store) → (V → Stamps) → Engine S V → Type 0
+FitsNew m p e = Fits (new_ledger (limits_of e.table.last (m e.store) (p e.validator))) e.table (m e.store) (p e.validator)
+
+-- the transaction that a slip gives leave to act in
+abbrev pub handle_of : {K : Type 0} → Slip K → ℕ
+handle_of s = s.handle

@@ -1,0 +1,20 @@
+-- What a recent list shows, and that every one is lawful.
+use Rattle.std.specs.Prelude.{ℕ, ◌≤◌, List}
+use Rattle.validation.specs.declared.entry.Entry.{Entry}
+use Rattle.validation.specs.declared.recent.RecentList.{RecentList}
+use Rattle.validation.specs.Meaning.{Meaning, Lawful}
+use Rattle.validation.specs.Recent.{listed}
+
+-- its entries in the order of noting
+abbrev pub entries_of : RecentList → List Entry
+entries_of l = l.entries.records
+
+-- what its other places hold
+abbrev pub places_behind : RecentList → List Entry
+places_behind l = l.entries.rest
+
+abbrev pub list_meaning : RecentList → Meaning
+list_meaning l = listed l.keys (entries_of l)
+
+pub list_lawful : (l : RecentList) → Lawful (list_meaning l)
+list_lawful l = record { few_keys = l.few; granules = λ k inside. inside }
