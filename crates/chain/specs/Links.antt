@@ -1,5 +1,5 @@
 -- Lists of cells, each told by the indices of its cells from a link on.
-use Rattle.std.specs.Prelude.{◌≡◌, ℕ, zero, suc, ◌+◌, ◌≤◌, Bool, true, false, cond, ◌&&◌, List, [], ◌∷◌, ◌++◌, length, Some, None, Option, ◌==◌, nat_lt, slice_index_or, slice_set}
+use Rattle.std.specs.Prelude.{◌≡◌, ℕ, zero, suc, ◌+◌, ◌≤◌, Bool, true, false, if◌then◌else◌, ◌&&◌, List, [], ◌∷◌, ◌++◌, length, Some, None, Option, ◌==◌, nat_lt, slice_index_or, slice_set}
 use Rattle.versions.specs.declared.store.Version.{Version}
 use Rattle.chain.specs.declared.cell.Cell.{Cell}
 
@@ -36,7 +36,7 @@ Ends cells link = ends cells (length cells) link ≡ true
 -- how often an index stands in a list
 abbrev pub times : ℕ → List ℕ → ℕ
 times i [] = 0
-times i (j ∷ js) = cond (i == j) 1 0 + times i js
+times i (j ∷ js) = (if i == j then 1 else 0) + times i js
 
 -- no index stands in the list twice
 abbrev pub Once : List ℕ → Type 0
@@ -57,7 +57,7 @@ inside cells (Some i) = nat_lt i (length cells)
 -- the first of these cells whose stamp is below a tick
 abbrev pub first_below : ℕ → List Cell → List ℕ → Option ℕ
 first_below tick cells [] = None
-first_below tick cells (i ∷ is) = cond (nat_lt (cell_at cells i).stamp tick) (Some i) (first_below tick cells is)
+first_below tick cells (i ∷ is) = if nat_lt (cell_at cells i).stamp tick then Some i else first_below tick cells is
 
 -- where the list goes on behind a cell
 abbrev pub behind : List Cell → Option ℕ → Option ℕ

@@ -1,5 +1,5 @@
 -- What heads and cells mean as a version store.
-use Rattle.std.specs.Prelude.{◌≡◌, ℕ, ◌+◌, ◌≤◌, true, cond, not, ◌||◌, List, map, length, None, Ok, Err, Option, Result, ◌==◌, nat_le, nat_lt, slice_index_or}
+use Rattle.std.specs.Prelude.{◌≡◌, ℕ, ◌+◌, ◌≤◌, true, if◌then◌else◌, not, ◌||◌, List, map, length, None, Ok, Err, Option, Result, ◌==◌, nat_le, nat_lt, slice_index_or}
 use Rattle.versions.specs.Meaning.{Meaning, sum_below, falls, kept, pruned, pruned_count}
 use Rattle.versions.specs.declared.fault.StoreFault.{StoreFault}
 use Rattle.versions.specs.declared.fault.StoreFault.TheVariants.{Keys, Cells, Heads, KeyOutside}
@@ -49,12 +49,12 @@ pub record Pruned (horizon : ℕ) (heads : List (Option ℕ)) (cells left : List
 
 -- where a key's chain begins
 abbrev pub head_answer : List (Option ℕ) → ℕ → Result (Option ℕ) StoreFault
-head_answer heads k = cond (nat_le (length heads) k) (Err (KeyOutside k)) (Ok (slice_index_or heads k None))
+head_answer heads k = if nat_le (length heads) k then Err (KeyOutside k) else Ok (slice_index_or heads k None)
 
 -- set-up: the keys, then the cells, then the heads
 abbrev pub chain_set_up : ℕ → ℕ → ℕ → Result (Unit {0}) StoreFault
 chain_set_up keys heads cells =
-    cond (keys == 0 || nat_lt 1024 keys) (Err (Keys keys))
-    (cond (cells == 0 || nat_lt 2048 cells) (Err (Cells cells))
-    (cond (not (heads == keys)) (Err (Heads heads))
-    (Ok tt)))
+    if keys == 0 || nat_lt 1024 keys then Err (Keys keys)
+    else if cells == 0 || nat_lt 2048 cells then Err (Cells cells)
+    else if not (heads == keys) then Err (Heads heads)
+    else Ok tt

@@ -1,5 +1,5 @@
 -- The lines of text that tell of a club's afternoon: a word for the event, and its numbers, a space between.
-use Rattle.std.specs.Prelude.{ℕ, ◌+◌, ◌-◌, ◌*◌, Bool, true, false, cond, ◌&&◌, List, [], ◌∷◌, Some, None, codes, Option, Ok, Err, Result, ◌==◌, nat_le}
+use Rattle.std.specs.Prelude.{ℕ, ◌+◌, ◌-◌, ◌*◌, Bool, true, false, if◌then◌else◌, ◌&&◌, List, [], ◌∷◌, Some, None, codes, Option, Ok, Err, Result, ◌==◌, nat_le}
 use Rattle.std.specs.Bool.{⊤}
 use Rattle.std.specs.Option.{option_map}
 use Rattle.club.specs.declared.event.Event.{Event}
@@ -10,17 +10,17 @@ use Rattle.club.specs.declared.event.Event.TheVariants.{Card, Correction, Recalc
 -- what stands before the first space
 abbrev pub word : List ℕ → List ℕ
 word [] = []
-word (c ∷ cs) = cond (c == 32) [] (c ∷ word cs)
+word (c ∷ cs) = if c == 32 then [] else (c ∷ word cs)
 
 -- what stands behind the first space
 abbrev pub behind : List ℕ → List ℕ
 behind [] = []
-behind (c ∷ cs) = cond (c == 32) cs (behind cs)
+behind (c ∷ cs) = if c == 32 then cs else behind cs
 
 -- the number that more digits make of n, if it is at most the given one
 abbrev pub digits_on : ℕ → List ℕ → ℕ → Option ℕ
 digits_on n [] most = Some n
-digits_on n (c ∷ cs) most = cond (nat_le 48 c && (nat_le c 57 && nat_le (n * 10 + (c - 48)) most)) (digits_on (n * 10 + (c - 48)) cs most) None
+digits_on n (c ∷ cs) most = if nat_le 48 c && (nat_le c 57 && nat_le (n * 10 + (c - 48)) most) then digits_on (n * 10 + (c - 48)) cs most else None
 
 -- a decimal number: at least one digit, and at most the given one
 abbrev pub number : List ℕ → ℕ → Option ℕ
@@ -73,16 +73,16 @@ rounds args = three (short (word args)) (both (short (word (behind args))) (shor
 
 abbrev pub verb : List ℕ → Option Verb
 verb w =
-    cond (same w (codes "card")) (Some ToPost)
-    (cond (same w (codes "correct")) (Some ToCorrect)
-    (cond (same w (codes "recalculate")) (Some ToRecalculate)
-    (cond (same w (codes "finish")) (Some ToFinish)
-    (cond (same w (codes "list")) (Some ToList)
-    (cond (same w (codes "report")) (Some ToReport)
-    (cond (same w (codes "show")) (Some ToShow)
-    (cond (same w (codes "close")) (Some ToClose)
-    (cond (same w (codes "clean")) (Some ToClean)
-    None))))))))
+    if same w (codes "card") then Some ToPost
+    else if same w (codes "correct") then Some ToCorrect
+    else if same w (codes "recalculate") then Some ToRecalculate
+    else if same w (codes "finish") then Some ToFinish
+    else if same w (codes "list") then Some ToList
+    else if same w (codes "report") then Some ToReport
+    else if same w (codes "show") then Some ToShow
+    else if same w (codes "close") then Some ToClose
+    else if same w (codes "clean") then Some ToClean
+    else None
 
 -- nothing may follow the word of an event without numbers
 abbrev pub plain : Event → List ℕ → Option Event

@@ -19,7 +19,7 @@ use Rattle.validation.specs.Meaning.{Meaning as Stamps}
 use Rattle.transaction_table.specs.declared.record.Record.{Record}
 use Rattle.transaction_table.specs.declared.table.Table.{Table}
 use Rattle.transaction_table.specs.View.{active_of, view, taken}
-use Rattle.transaction_table.specs.Notes.{admits, join_answer, then, noted_on, on_ok}
+use Rattle.transaction_table.specs.Notes.{admits, join_answer, first_refusal, noted_on, on_ok}
 use Rattle.transaction_table.specs.Places.{Here, Released, begin_answer, begun_active}
 use Rattle.engine.specs.Shows.{shown}
 use Rattle.transaction_table.specs.Shuffle.{Shuffle, keep, join}
@@ -45,7 +45,7 @@ write_step l b h k x u keys room same e = rw (e, ← same) (go (is_reader u.kind
     go false true false = refl
 
 -- the checks of a read, one after another, answered by an outcome or by a result
-read_ways : (h k room : ℕ) (inside short r p q z : Bool) (l : Ledger) (b b' : List ℕ) (ts : List Transaction) → cond (not inside) (refused l b (KeyOutside k)) (cond short (refused l b (ShortBuffer room)) (cond ((not r && (p && not q)) && z) (refused l b (ReadListFull h)) (record { answer = ReadDone; buffer = b'; ledger = with_active l ts }))) ≡ outcome l b ReadDone b' ts (then (cond (not inside) (Err (KeyOutside k)) (cond short (Err (ShortBuffer room)) (Ok tt))) (cond r (Ok tt) (cond (p && (not q && z)) (Err (ReadListFull h)) (Ok tt))))
+read_ways : (h k room : ℕ) (inside short r p q z : Bool) (l : Ledger) (b b' : List ℕ) (ts : List Transaction) → cond (not inside) (refused l b (KeyOutside k)) (cond short (refused l b (ShortBuffer room)) (cond ((not r && (p && not q)) && z) (refused l b (ReadListFull h)) (record { answer = ReadDone; buffer = b'; ledger = with_active l ts }))) ≡ outcome l b ReadDone b' ts (first_refusal (cond (not inside) (Err (KeyOutside k)) (cond short (Err (ShortBuffer room)) (Ok tt))) (cond r (Ok tt) (cond (p && (not q && z)) (Err (ReadListFull h)) (Ok tt))))
 read_ways h k room false short r p q z l b b' ts = refl
 read_ways h k room true true r p q z l b b' ts = refl
 read_ways h k room true false true p q z l b b' ts = refl
@@ -61,7 +61,7 @@ read_step l b h k n u keys same e = rw (e, ← same) (read_ways h k (length b) (
 pub admitted_read : (keys room : ℕ) (u : Transaction) (h k n : ℕ) → Ok tt ≡ admits keys room u (Read h k n) → (k + n ≤ keys) × (n ≤ room)
 admitted_read keys room u h k n e = go (leb (k + n) keys) (ltb room n) refl refl e
   where
-    go : (inside short : Bool) → leb (k + n) keys ≡ inside → ltb room n ≡ short → Ok tt ≡ then (cond (not inside) (Err (KeyOutside k)) (cond short (Err (ShortBuffer room)) (Ok tt))) (cond (is_reader u.kind) (Ok tt) (join_answer h k n u.reads)) → (k + n ≤ keys) × (n ≤ room)
+    go : (inside short : Bool) → leb (k + n) keys ≡ inside → ltb room n ≡ short → Ok tt ≡ first_refusal (cond (not inside) (Err (KeyOutside k)) (cond short (Err (ShortBuffer room)) (Ok tt))) (cond (is_reader u.kind) (Ok tt) (join_answer h k n u.reads)) → (k + n ≤ keys) × (n ≤ room)
     go false short d f q = let z : ◌≡◌ {A = ℕ} 0 1 = cc in absurd (omega arith)
     go true true d f q = let z : ◌≡◌ {A = ℕ} 0 1 = cc in absurd (omega arith)
     go true false d f q = (leb-true (k + n) keys d, ltb-false room n f)

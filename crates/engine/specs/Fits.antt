@@ -1,5 +1,5 @@
 -- When a ledger tells of an engine: of its table, and of what its store and its validator mean.
-use Rattle.std.specs.Prelude.{◌≡◌, ℕ, ◌<◌, ◌≤◌, cond, ◌&&◌, List, [], ◌∷◌, ◌==◌, nat_lt}
+use Rattle.std.specs.Prelude.{◌≡◌, ℕ, ◌<◌, ◌≤◌, if◌then◌else◌, ◌&&◌, List, [], ◌∷◌, ◌==◌, nat_lt}
 use Rattle.ledger.specs.Ledger.{Limits, Version, Ledger, no_limits}
 use Rattle.ledger.specs.Calls.{granule_stamp}
 use Rattle.ledger.specs.Reach.{Reached}
@@ -11,16 +11,16 @@ use Rattle.transaction_table.specs.Shuffle.{Shuffle}
 
 -- the limits of an engine with this last tick; none where its check refused, and the last tick is 0
 abbrev pub limits_of : ℕ → Store → Stamps → Limits
-limits_of last s v = cond (last == 0) no_limits (record { keys = s.keys; cells = s.cells; last = last; granule = v.granule })
+limits_of last s v = if last == 0 then no_limits else record { keys = s.keys; cells = s.cells; last = last; granule = v.granule }
 
 -- stamp and value of each present version of a key, newest first
 abbrev pub chain_of : ℕ → List Version → List (ℕ × ℕ)
 chain_of k [] = []
-chain_of k (v ∷ vs) = cond (v.key == k && v.present) ((v.stamp, v.value) ∷ chain_of k vs) (chain_of k vs)
+chain_of k (v ∷ vs) = if v.key == k && v.present then (v.stamp, v.value) ∷ chain_of k vs else chain_of k vs
 
 -- a granule's stamp after a trim
 abbrev pub kept_stamp : ℕ → ℕ → ℕ
-kept_stamp trim s = cond (nat_lt s trim) 0 s
+kept_stamp trim s = if nat_lt s trim then 0 else s
 
 -- what store and validator have of the ledger's versions
 pub record Holds (l : Ledger) (s : Store) (v : Stamps) : Type 0 where

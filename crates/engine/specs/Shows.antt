@@ -1,5 +1,5 @@
 -- What a transaction reads from a store.
-use Rattle.std.specs.Prelude.{ℕ, cond, Ok, Err, Result}
+use Rattle.std.specs.Prelude.{ℕ, if◌then◌else◌, Ok, Err, Result}
 use Rattle.std.specs.Option.{unwrap_or}
 use Rattle.ledger.specs.Ledger.{Transaction, is_reader, own_write}
 use Rattle.versions.specs.declared.fault.StoreFault.{StoreFault}
@@ -11,4 +11,4 @@ value_in (Err f) = 0
 
 -- a reader as of its start, an updater its own write or else the newest value
 abbrev pub shown : Store → Transaction → ℕ → ℕ
-shown s t k = cond (is_reader t.kind) (value_in (as_of_answer s k t.start)) (unwrap_or (own_write k t.writes) (value_in (newest_answer s k)))
+shown s t k = if is_reader t.kind then value_in (as_of_answer s k t.start) else unwrap_or (own_write k t.writes) (value_in (newest_answer s k))

@@ -1,5 +1,5 @@
 -- What the parts of a commit tell of each ledger that fits.
-use Rattle.std.specs.Prelude.{◌≡◌, ℕ, ◌<◌, false, cond, List, Some, nat_lt}
+use Rattle.std.specs.Prelude.{◌≡◌, ℕ, ◌<◌, false, if◌then◌else◌, List, Some, nat_lt}
 use Rattle.ledger.specs.declared.Verdict.{Verdict}
 use Rattle.ledger.specs.declared.Call.TheVariants.{Commit}
 use Rattle.ledger.specs.declared.Answer.TheVariants.{Ended}
@@ -17,7 +17,7 @@ use Rattle.engine.specs.Fits.{limits_of, Holds, Fits}
 
 -- the ledger that a commit of so many writes judges: where cells are short, the reclaimed one
 abbrev pub with_room : Ledger → ℕ → Ledger
-with_room l n = cond (nat_lt (free l) n) (reclaimed l) l
+with_room l n = if nat_lt (free l) n then reclaimed l else l
 
 abbrev pub MakesRoom : {S V : Type 0} → (S → Store) → (V → Stamps) → Engine S V → Engine S V → ℕ → Type 0
 MakesRoom m p e e' n = (l : Ledger) → 0 < e.table.last → Fits l e.table (m e.store) (p e.validator) → Fits (with_room l n) e'.table (m e'.store) (p e'.validator)

@@ -1,5 +1,5 @@
 -- The six calls on the ledger: the answer, the caller's buffer afterwards, and the ledger afterwards.
-use Rattle.std.specs.Prelude.{ℕ, zero, suc, ◌+◌, ◌-◌, max, Bool, true, false, cond, not, ◌&&◌, List, [], ◌∷◌, ◌++◌, map, length, drop, Some, None, filter, Option, ◌==◌, nat_le, nat_lt}
+use Rattle.std.specs.Prelude.{ℕ, zero, suc, ◌+◌, ◌-◌, max, Bool, true, false, if◌then◌else◌, not, ◌&&◌, List, [], ◌∷◌, ◌++◌, map, length, drop, Some, None, filter, Option, ◌==◌, nat_le, nat_lt}
 use Rattle.std.specs.Option.{unwrap_or}
 use Rattle.ledger.specs.declared.Kind.{Kind}
 use Rattle.ledger.specs.declared.Range.{Range}
@@ -26,7 +26,7 @@ refused l b f = record { answer = Refused f; buffer = b; ledger = l }
 
 -- the ledger with other active transactions
 abbrev pub with_active : Ledger → List Transaction → Ledger
-with_active l ts = record { limits = l.limits; clock = l.clock; active = ts; versions = l.versions; trimmed = l.trimmed }
+with_active l ts = record l { active = ts }
 
 -- the transaction with this handle is gone
 abbrev pub without : List Transaction → ℕ → List Transaction
@@ -34,7 +34,7 @@ without ts h = filter (λ t. not (t.start == h)) ts
 
 -- the transaction with this handle is changed by f
 abbrev pub changed : List Transaction → ℕ → (Transaction → Transaction) → List Transaction
-changed ts h f = map (λ u. cond (u.start == h) (f u) u) ts
+changed ts h f = map (λ u. if u.start == h then f u else u) ts
 
 -- the clock has reached the last tick
 abbrev pub out_of_ticks : Ledger → Bool
@@ -52,20 +52,20 @@ fresh s kind = record { start = s; kind = kind; reads = []; writes = [] }
 
 -- the next tick is drawn, and a transaction begins at it
 abbrev pub opened : Ledger → Kind → Ledger
-opened l kind = record { limits = l.limits; clock = l.clock + 1; active = fresh (l.clock + 1) kind ∷ l.active; versions = l.versions; trimmed = l.trimmed }
+opened l kind = record l { clock = l.clock + 1; active = fresh (l.clock + 1) kind ∷ l.active }
 
 -- begin: 16 active are refused, then a spent clock; else the next tick is start and handle
 abbrev pub begin_call : Ledger → List ℕ → Kind → Outcome
 begin_call l b kind =
-    cond (nat_le 16 (length l.active)) (refused l b TooManyActive)
-    (cond (out_of_ticks l) (refused l b (ClockSpent l.limits.last))
-    (record { answer = Began (l.clock + 1); buffer = b; ledger = opened l kind }))
+    if nat_le 16 (length l.active) then refused l b TooManyActive
+    else if out_of_ticks l then refused l b (ClockSpent l.limits.last)
+    else record { answer = Began (l.clock + 1); buffer = b; ledger = opened l kind }
 
 -- Read
 
 -- what a transaction reads at a key: a reader as of its start, an updater its own write or else the newest value
 abbrev pub seen : Ledger → Transaction → ℕ → ℕ
-seen l t k = cond (is_reader t.kind) (value_below k t.start l.versions) (unwrap_or (own_write k t.writes) (newest_value k l.versions))
+seen l t k = if is_reader t.kind then value_below k t.start l.versions else unwrap_or (own_write k t.writes) (newest_value k l.versions)
 
 -- the keys k, k + 1, .., n of them
 abbrev pub keys_from : ℕ → ℕ → List ℕ
@@ -82,20 +82,20 @@ joins t k n = not (is_reader t.kind) && (nat_lt 0 n && not (any (same_range k n)
 
 -- the transaction once its read list has the range, if it joins
 abbrev pub joined : Transaction → ℕ → ℕ → Transaction
-joined t k n = cond (joins t k n) (record { start = t.start; kind = t.kind; reads = t.reads ++ (record { first = k; count = n } ∷ []); writes = t.writes }) t
+joined t k n = if joins t k n then record t { reads = t.reads ++ (record { first = k; count = n } ∷ []) } else t
 
 -- a read by the transaction found: each refusal in its turn; else the values go to the front of the buffer
 abbrev pub read_by : Ledger → List ℕ → ℕ → ℕ → ℕ → Option Transaction → Outcome
 read_by l b h k n None = refused l b (NoTransaction h)
 read_by l b h k n (Some t) =
-    cond (not (in_table l k n)) (refused l b (KeyOutside k))
-    (cond (nat_lt (length b) n) (refused l b (ShortBuffer (length b)))
-    (cond (joins t k n && nat_le 32 (length t.reads)) (refused l b (ReadListFull h))
-    (record {
+    if not (in_table l k n) then refused l b (KeyOutside k)
+    else if nat_lt (length b) n then refused l b (ShortBuffer (length b))
+    else if joins t k n && nat_le 32 (length t.reads) then refused l b (ReadListFull h)
+    else record {
       answer = ReadDone;
       buffer = map (seen l t) (keys_from k n) ++ drop n b;
       ledger = with_active l (changed l.active h (λ u. joined u k n));
-    })))
+    }
 
 -- read: by the active transaction that has the handle
 abbrev pub read_call : Ledger → List ℕ → ℕ → ℕ → ℕ → Outcome
@@ -110,7 +110,7 @@ is_some (Some x) = true
 
 -- the transaction with the write in its list
 abbrev pub wrote : Transaction → ℕ → ℕ → Transaction
-wrote t k x = record { start = t.start; kind = t.kind; reads = t.reads; writes = written t.writes k x }
+wrote t k x = record t { writes = written t.writes k x }
 
 -- a key that is new to a write list of 32
 abbrev pub no_room : Transaction → ℕ → Bool
@@ -120,10 +120,10 @@ no_room t k = not (is_some (own_write k t.writes)) && nat_le 32 (length t.writes
 abbrev pub write_by : Ledger → List ℕ → ℕ → ℕ → ℕ → Option Transaction → Outcome
 write_by l b h k x None = refused l b (NoTransaction h)
 write_by l b h k x (Some t) =
-    cond (is_reader t.kind) (refused l b (ReaderWrites h))
-    (cond (not (in_table l k 1)) (refused l b (KeyOutside k))
-    (cond (no_room t k) (refused l b (WriteListFull h))
-    (record { answer = Wrote; buffer = b; ledger = with_active l (changed l.active h (λ u. wrote u k x)) })))
+    if is_reader t.kind then refused l b (ReaderWrites h)
+    else if not (in_table l k 1) then refused l b (KeyOutside k)
+    else if no_room t k then refused l b (WriteListFull h)
+    else record { answer = Wrote; buffer = b; ledger = with_active l (changed l.active h (λ u. wrote u k x)) }
 
 -- write: by the active transaction that has the handle
 abbrev pub write_call : Ledger → List ℕ → ℕ → ℕ → ℕ → Outcome
@@ -133,11 +133,8 @@ write_call l b h k x = write_by l b h k x (found l.active h)
 
 -- dead versions are removed, and the tick trimmed at rises
 abbrev pub reclaimed : Ledger → Ledger
-reclaimed l = record {
-  limits = l.limits;
-  clock = l.clock;
-  active = l.active;
-  versions = map (λ v. record { key = v.key; stamp = v.stamp; value = v.value; present = v.present && not (dead l v) }) l.versions;
+reclaimed l = record l {
+  versions = map (λ (v : Version). record v { present = v.present && not (dead l v) }) l.versions;
   trimmed = max l.trimmed (trim_tick l);
 }
 
@@ -155,12 +152,12 @@ read_keys (r ∷ rs) = keys_from r.first r.count ++ read_keys rs
 -- the greatest stamp of a version written into the granule of a key; 0 where there is none
 abbrev pub granule_stamp : (ℕ → ℕ) → ℕ → List Version → ℕ
 granule_stamp g k [] = 0
-granule_stamp g k (v ∷ vs) = cond (g v.key == g k) (max v.stamp (granule_stamp g k vs)) (granule_stamp g k vs)
+granule_stamp g k (v ∷ vs) = if g v.key == g k then max v.stamp (granule_stamp g k vs) else granule_stamp g k vs
 
 -- the first of the keys whose granule has a stamp above the start tick s, with that stamp
 abbrev pub first_clash : (ℕ → ℕ) → List Version → ℕ → List ℕ → Option (ℕ × ℕ)
 first_clash g vs s [] = None
-first_clash g vs s (k ∷ ks) = cond (nat_lt s (granule_stamp g k vs)) (Some (k, granule_stamp g k vs)) (first_clash g vs s ks)
+first_clash g vs s (k ∷ ks) = if nat_lt s (granule_stamp g k vs) then Some (k, granule_stamp g k vs) else first_clash g vs s ks
 
 -- the first clash of an updater, told from all versions ever committed
 abbrev pub clash : Ledger → Transaction → Option (ℕ × ℕ)
@@ -184,15 +181,15 @@ ended l b h v = record { answer = Ended v; buffer = b; ledger = with_active l (w
 
 -- the next tick is drawn, and an updater's writes become versions of it
 abbrev pub installed : Ledger → Transaction → Ledger
-installed l t = record { limits = l.limits; clock = l.clock + 1; active = without l.active t.start; versions = stamped (l.clock + 1) t.writes ++ l.versions; trimmed = l.trimmed }
+installed l t = record l { clock = l.clock + 1; active = without l.active t.start; versions = stamped (l.clock + 1) t.writes ++ l.versions }
 
 -- restart, spent, full, committed: the first that applies
 abbrev pub judged_by : Ledger → List ℕ → Transaction → Option (ℕ × ℕ) → Outcome
 judged_by l b t (Some x) = ended l b t.start (Restart x.0 x.1)
 judged_by l b t None =
-    cond (out_of_ticks l) (ended l b t.start Spent)
-    (cond (too_full l (length t.writes)) (ended l b t.start (Full (length t.writes) (free l)))
-    (record { answer = Ended (Committed (l.clock + 1)); buffer = b; ledger = installed l t }))
+    if out_of_ticks l then ended l b t.start Spent
+    else if too_full l (length t.writes) then ended l b t.start (Full (length t.writes) (free l))
+    else record { answer = Ended (Committed (l.clock + 1)); buffer = b; ledger = installed l t }
 
 -- the verdict on an updater, and what it leaves
 abbrev pub judged : Ledger → List ℕ → Transaction → Outcome
@@ -202,8 +199,9 @@ judged l b t = judged_by l b t (clash l t)
 abbrev pub commit_by : Ledger → List ℕ → ℕ → Option Transaction → Outcome
 commit_by l b h None = refused l b (NoTransaction h)
 commit_by l b h (Some t) =
-    cond (is_reader t.kind) (ended l b h Closed)
-    (cond (nat_lt (free l) (length t.writes)) (judged (reclaimed l) b t) (judged l b t))
+    if is_reader t.kind then ended l b h Closed
+    else if nat_lt (free l) (length t.writes) then judged (reclaimed l) b t
+    else judged l b t
 
 -- commit: of the active transaction that has the handle
 abbrev pub commit_call : Ledger → List ℕ → ℕ → Outcome

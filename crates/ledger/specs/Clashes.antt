@@ -1,5 +1,5 @@
 -- Which commits are restarted, told from a history alone.
-use Rattle.std.specs.Prelude.{ℕ, max, Bool, false, cond, not, ◌&&◌, ◌||◌, List, [], ◌∷◌, ◌++◌, Some, None, Option, ◌==◌}
+use Rattle.std.specs.Prelude.{ℕ, max, Bool, false, if◌then◌else◌, not, ◌&&◌, ◌||◌, List, [], ◌∷◌, ◌++◌, Some, None, Option, ◌==◌}
 use Rattle.ledger.specs.declared.Verdict.TheVariants.{Closed, Restart, Spent, Full, Committed}
 use Rattle.ledger.specs.declared.Call.{Call}
 use Rattle.ledger.specs.declared.Call.TheVariants.{Begin, Read, Write, Commit, Abort, Reclaim}
@@ -32,7 +32,7 @@ commit_of Reclaim a = None
 -- the tick of this commit, if its transaction wrote into the granule of the key k, else 0
 abbrev pub tick_into : (ℕ → ℕ) → ℕ → Option (ℕ × ℕ) → List Made → ℕ
 tick_into g k None ms = 0
-tick_into g k (Some c) ms = cond (sets_in g k (acts c.1 ms)) c.0 0
+tick_into g k (Some c) ms = if sets_in g k (acts c.1 ms) then c.0 else 0
 
 -- the greatest tick at which a transaction that wrote into the granule of the key k was answered committed, 0 without any
 abbrev pub commit_into : (ℕ → ℕ) → ℕ → List Made → ℕ
@@ -52,7 +52,7 @@ struck g k h (m ∷ ms) = not (begins h m) && (into g k (commit_of m.call m.answ
 -- the first of these keys that was struck since h began, with the greatest commit tick into its granule
 abbrev pub first_struck : (ℕ → ℕ) → List Made → ℕ → List ℕ → Option (ℕ × ℕ)
 first_struck g ms h [] = None
-first_struck g ms h (k ∷ ks) = cond (struck g k h ms) (Some (k, commit_into g k ms)) (first_struck g ms h ks)
+first_struck g ms h (k ∷ ks) = if struck g k h ms then Some (k, commit_into g k ms) else first_struck g ms h ks
 
 -- what an answer names if it is a restart
 abbrev pub restart_of : Answer → Option (ℕ × ℕ)

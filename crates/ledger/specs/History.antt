@@ -1,5 +1,5 @@
 -- Histories: the calls made on one new engine, and what can be told from the calls, the answers and the buffers alone.
-use Rattle.std.specs.Prelude.{◌≡◌, ℕ, Bool, true, false, cond, not, ◌&&◌, ◌||◌, List, [], ◌∷◌, ◌++◌, map, take, Some, None, filter, Option, ◌==◌}
+use Rattle.std.specs.Prelude.{◌≡◌, ℕ, Bool, true, false, if◌then◌else◌, not, ◌&&◌, ◌||◌, List, [], ◌∷◌, ◌++◌, map, take, Some, None, filter, Option, ◌==◌}
 use Rattle.ledger.specs.declared.Kind.TheVariants.{Reader, Updater}
 use Rattle.ledger.specs.declared.Verdict.TheVariants.{Closed, Restart, Spent, Full, Committed}
 use Rattle.ledger.specs.declared.Call.{Call}
@@ -47,7 +47,7 @@ pub data Act : Type 0 where
 
 -- the one thing where the test holds, and else nothing
 abbrev pub when : {X : Type 0} → Bool → X → List X
-when b x = cond b (x ∷ []) []
+when b x = if b then x ∷ [] else []
 
 -- what one accepted call does for the transaction with this handle: it looks at a range, or sets a key
 abbrev pub act_of : ℕ → Call → Bool → List Act
@@ -165,7 +165,7 @@ placed Reclaim a = None
 -- the handle of who stands at the tick, or else what the rest says
 abbrev pub at_tick : ℕ → Option (ℕ × ℕ) → Option ℕ → Option ℕ
 at_tick t None rest = rest
-at_tick t (Some p) rest = cond (p.0 == t) (Some p.1) rest
+at_tick t (Some p) rest = if p.0 == t then Some p.1 else rest
 
 -- the handle of the transaction that stands at a tick
 abbrev pub stands_at : List Made → ℕ → Option ℕ

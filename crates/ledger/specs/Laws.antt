@@ -1,5 +1,5 @@
 -- The laws: what the calls mean for those who make them.
-use Rattle.std.specs.Prelude.{◌≡◌, ℕ, zero, suc, ◌+◌, ◌-◌, ◌<◌, ◌≤◌, Bool, true, false, cond, not, ◌&&◌, List, [], ◌∷◌, ◌++◌, length, Some, None, filter, Option, ◌==◌, ◌≢◌, nat_lt}
+use Rattle.std.specs.Prelude.{◌≡◌, ℕ, zero, suc, ◌+◌, ◌-◌, ◌<◌, ◌≤◌, Bool, true, false, if◌then◌else◌, not, ◌&&◌, List, [], ◌∷◌, ◌++◌, length, Some, None, filter, Option, ◌==◌, ◌≢◌, nat_lt}
 use Rattle.ledger.specs.declared.Call.{Call}
 use Rattle.ledger.specs.declared.Call.TheVariants.{Begin, Read, Write, Commit, Abort, Reclaim}
 use Rattle.ledger.specs.declared.Fault.{Fault}
@@ -56,7 +56,7 @@ crowded l t = not (is_some (clash l t)) && (not (out_of_ticks l) && nat_lt l.lim
 
 -- the numbers of the verdict full where the live versions and the writes exceed the cells, and else none
 abbrev pub full_if_crowded : Ledger → Transaction → Option (ℕ × ℕ)
-full_if_crowded l t = cond (crowded l t) (Some (length t.writes, l.limits.cells - live_count l)) None
+full_if_crowded l t = if crowded l t then Some (length t.writes, l.limits.cells - live_count l) else None
 
 -- Full: an updater's commit is full only if it must be.
 abbrev pub Fulls : Limits → List Made → Type 0
@@ -153,7 +153,7 @@ IdleLaw = (l : Ledger) → Reached l → l.limits.last ≡ 0 → (c : Call) (b :
 -- the stamp and the value of the newest version of a key stamped below a tick
 abbrev pub newest_below : ℕ → ℕ → List Version → Option (ℕ × ℕ)
 newest_below k t [] = None
-newest_below k t (v ∷ vs) = cond (v.key == k && nat_lt v.stamp t) (Some (v.stamp, v.value)) (newest_below k t vs)
+newest_below k t (v ∷ vs) = if v.key == k && nat_lt v.stamp t then Some (v.stamp, v.value) else newest_below k t vs
 
 -- once every tick below t is drawn, the newest version below t never changes
 abbrev pub PastLaw : Type 0

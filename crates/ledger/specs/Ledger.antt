@@ -1,5 +1,5 @@
 -- The ledger: all that answers depend on. It keeps every version that was ever committed.
-use Rattle.std.specs.Prelude.{ℕ, ◌+◌, min, Bool, true, false, cond, not, ◌&&◌, ◌||◌, List, [], ◌∷◌, length, Some, None, filter, Option, ◌==◌, nat_lt}
+use Rattle.std.specs.Prelude.{ℕ, ◌+◌, min, Bool, true, false, if◌then◌else◌, not, ◌&&◌, ◌||◌, List, [], ◌∷◌, length, Some, None, filter, Option, ◌==◌, nat_lt}
 use Rattle.ledger.specs.declared.Kind.{Kind}
 use Rattle.ledger.specs.declared.Range.{Range}
 use Rattle.ledger.specs.declared.Write.{Write}
@@ -51,7 +51,7 @@ no_limits = record { keys = 0; cells = 0; last = 0; granule = λ k. k }
 -- the active transaction with this handle
 abbrev pub found : List Transaction → ℕ → Option Transaction
 found [] h = None
-found (t ∷ ts) h = cond (t.start == h) (Some t) (found ts h)
+found (t ∷ ts) h = if t.start == h then Some t else found ts h
 
 -- a reader, and no updater
 abbrev pub is_reader : Kind → Bool
@@ -61,7 +61,7 @@ is_reader Updater = false
 -- the least start tick of the active transactions of these kinds, or the given tick without any
 abbrev pub least_start : (Kind → Bool) → ℕ → List Transaction → ℕ
 least_start p none [] = none
-least_start p none (t ∷ ts) = cond (p t.kind) (min t.start (least_start p none ts)) (least_start p none ts)
+least_start p none (t ∷ ts) = if p t.kind then min t.start (least_start p none ts) else least_start p none ts
 
 -- no active reader looks below it
 abbrev pub horizon : Ledger → ℕ
@@ -97,21 +97,21 @@ dead_count l = length (filter (λ v. v.present && dead l v) l.versions)
 -- the newest value of a key stamped below a tick; 0 where there is none
 abbrev pub value_below : ℕ → ℕ → List Version → ℕ
 value_below k t [] = 0
-value_below k t (v ∷ vs) = cond (v.key == k && nat_lt v.stamp t) v.value (value_below k t vs)
+value_below k t (v ∷ vs) = if v.key == k && nat_lt v.stamp t then v.value else value_below k t vs
 
 -- the newest value of a key; 0 where there is none
 abbrev pub newest_value : ℕ → List Version → ℕ
 newest_value k [] = 0
-newest_value k (v ∷ vs) = cond (v.key == k) v.value (newest_value k vs)
+newest_value k (v ∷ vs) = if v.key == k then v.value else newest_value k vs
 
 -- Write lists
 
 -- the value that a write list has for a key
 abbrev pub own_write : ℕ → List Write → Option ℕ
 own_write k [] = None
-own_write k (w ∷ ws) = cond (w.key == k) (Some w.value) (own_write k ws)
+own_write k (w ∷ ws) = if w.key == k then Some w.value else own_write k ws
 
 -- a key already there gets the new value in its old place
 abbrev pub written : List Write → ℕ → ℕ → List Write
 written [] k x = record { key = k; value = x } ∷ []
-written (w ∷ ws) k x = cond (w.key == k) (record { key = k; value = x } ∷ ws) (w ∷ written ws k x)
+written (w ∷ ws) k x = if w.key == k then record { key = k; value = x } ∷ ws else (w ∷ written ws k x)

@@ -1,5 +1,5 @@
 -- The serial table: the transactions of a history run on it one at a time.
-use Rattle.std.specs.Prelude.{ℕ, zero, suc, cond, List, [], ◌∷◌, ◌++◌, map, Some, None, Option, ◌==◌}
+use Rattle.std.specs.Prelude.{ℕ, zero, suc, if◌then◌else◌, List, [], ◌∷◌, ◌++◌, map, Some, None, Option, ◌==◌}
 use Rattle.ledger.specs.Calls.{keys_from}
 use Rattle.ledger.specs.History.{Made, Act, looks, sets, acts, stands_at}
 
@@ -10,7 +10,7 @@ Table = ℕ → ℕ
 -- a write sets its key's value
 abbrev pub act : Act → Table → Table
 act (looks k n) v = v
-act (sets k x) v = λ j. cond (j == k) x (v j)
+act (sets k x) v = λ j. if j == k then x else v j
 
 -- the table once these acts are done on it, one after another
 abbrev pub run : List Act → Table → Table

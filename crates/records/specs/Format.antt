@@ -1,5 +1,5 @@
 -- The records of a call file: 20 bytes each.
-use Rattle.std.specs.Prelude.{ℕ, ◌+◌, ◌*◌, ◌/◌, ◌%◌, Bool, cond, ◌&&◌, List, [], ◌∷◌, ◌++◌, length, Some, None, Option, ◌==◌, slice_index}
+use Rattle.std.specs.Prelude.{ℕ, ◌+◌, ◌*◌, ◌/◌, ◌%◌, Bool, if◌then◌else◌, ◌&&◌, List, [], ◌∷◌, ◌++◌, length, Some, None, Option, ◌==◌, slice_index}
 use Rattle.ledger.specs.declared.Kind.TheVariants.{Reader, Updater}
 use Rattle.ledger.specs.declared.Call.{Call}
 use Rattle.ledger.specs.declared.Call.TheVariants.{Begin, Read, Write, Commit, Abort, Reclaim}
@@ -34,23 +34,23 @@ well_formed b = length b == 20 && (slice_index b 1 == 0 && (slice_index b 6 == 0
 
 -- the call, where the fields that it does not use are zero
 abbrev pub unused : Bool → Call → Option Call
-unused zeros c = cond zeros (Some c) None
+unused zeros c = if zeros then Some c else None
 
 -- the call that the fields say
 abbrev pub call_of : Fields → Option Call
 call_of f =
-    cond (f.kind == 1) (unused (f.key == 0 && (f.count == 0 && (f.handle == 0 && f.value == 0))) (Begin Reader))
-    (cond (f.kind == 2) (unused (f.key == 0 && (f.count == 0 && (f.handle == 0 && f.value == 0))) (Begin Updater))
-    (cond (f.kind == 3) (unused (f.value == 0) (Read f.handle f.key f.count))
-    (cond (f.kind == 4) (unused (f.count == 0) (Write f.handle f.key f.value))
-    (cond (f.kind == 5) (unused (f.key == 0 && (f.count == 0 && f.value == 0)) (Commit f.handle))
-    (cond (f.kind == 6) (unused (f.key == 0 && (f.count == 0 && f.value == 0)) (Abort f.handle))
-    (cond (f.kind == 7) (unused (f.key == 0 && (f.count == 0 && (f.handle == 0 && f.value == 0))) Reclaim)
-    None))))))
+    if f.kind == 1 then unused (f.key == 0 && (f.count == 0 && (f.handle == 0 && f.value == 0))) (Begin Reader)
+    else if f.kind == 2 then unused (f.key == 0 && (f.count == 0 && (f.handle == 0 && f.value == 0))) (Begin Updater)
+    else if f.kind == 3 then unused (f.value == 0) (Read f.handle f.key f.count)
+    else if f.kind == 4 then unused (f.count == 0) (Write f.handle f.key f.value)
+    else if f.kind == 5 then unused (f.key == 0 && (f.count == 0 && f.value == 0)) (Commit f.handle)
+    else if f.kind == 6 then unused (f.key == 0 && (f.count == 0 && f.value == 0)) (Abort f.handle)
+    else if f.kind == 7 then unused (f.key == 0 && (f.count == 0 && (f.handle == 0 && f.value == 0))) Reclaim
+    else None
 
 -- the call that a record asks for; none where it is malformed
 abbrev pub decoded : List ℕ → Option Call
-decoded b = cond (well_formed b) (call_of (fields b)) None
+decoded b = if well_formed b then call_of (fields b) else None
 
 -- Encoding
 

@@ -1,7 +1,7 @@
 -- What a closing of gaps leaves of a list of records.
-use Rattle.std.specs.Prelude.{Bool, cond, List, [], ◌∷◌}
+use Rattle.std.specs.Prelude.{Bool, if◌then◌else◌, List, [], ◌∷◌}
 
 -- the records that stay, in their order: each is judged with the records behind it
 abbrev pub closed : {X : Type 0} → (X → List X → Bool) → List X → List X
 closed drops [] = []
-closed drops (x ∷ xs) = cond (drops x xs) (closed drops xs) (x ∷ closed drops xs)
+closed drops (x ∷ xs) = if drops x xs then closed drops xs else (x ∷ closed drops xs)

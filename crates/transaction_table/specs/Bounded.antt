@@ -1,5 +1,5 @@
 -- A list of at most so many items.
-use Rattle.std.specs.Prelude.{ℕ, cond, List, [], ◌∷◌, ◌++◌, length, take, Ok, Err, Result, nat_le}
+use Rattle.std.specs.Prelude.{ℕ, if◌then◌else◌, List, [], ◌∷◌, ◌++◌, length, take, Ok, Err, Result, nat_le}
 use Rattle.transaction_table.specs.declared.lists.Bounded.{Bounded}
 use Rattle.transaction_table.specs.declared.lists.Full.{Full}
 
@@ -8,7 +8,7 @@ held b = take b.len b.items
 
 -- there is room for an item where fewer than n are there
 abbrev pub push_room : {T : Type 0} → ℕ → List T → Result (Unit {0}) Full
-push_room n xs = cond (nat_le n (length xs)) (Err (record {})) (Ok tt)
+push_room n xs = if nat_le n (length xs) then Err (record {}) else Ok tt
 
 abbrev pub pushed : {T : Type 0} → ℕ → List T → T → List T
-pushed n xs x = cond (nat_le n (length xs)) xs (xs ++ (x ∷ []))
+pushed n xs x = if nat_le n (length xs) then xs else (xs ++ (x ∷ []))

@@ -1,5 +1,5 @@
 -- What a read or a write makes of a transaction's lists, and why it is refused.
-use Rattle.std.specs.Prelude.{◌≡◌, ℕ, ◌+◌, ◌<◌, Bool, true, cond, not, ◌&&◌, ◌||◌, List, [], ◌∷◌, ◌++◌, length, Some, None, Ok, Err, Option, Result, nat_le, nat_lt, slice_index_or, slice_set}
+use Rattle.std.specs.Prelude.{◌≡◌, ℕ, ◌+◌, ◌<◌, Bool, true, if◌then◌else◌, not, ◌&&◌, ◌||◌, List, [], ◌∷◌, ◌++◌, length, Some, None, Ok, Err, Option, Result, nat_le, nat_lt, slice_index_or, slice_set}
 use Rattle.ledger.specs.declared.Range.{Range}
 use Rattle.ledger.specs.declared.Write.{Write as Entry}
 use Rattle.ledger.specs.declared.Call.{Call}
@@ -18,10 +18,10 @@ reads_full rs k n = not (any (same_range k n) rs) && nat_le 32 (length rs)
 
 -- there is room for the range
 abbrev pub join_room : List Range → Range → Result (Unit {0}) Full
-join_room rs r = cond (reads_full rs r.first r.count) (Err (record {})) (Ok tt)
+join_room rs r = if reads_full rs r.first r.count then Err (record {}) else Ok tt
 
 abbrev pub reads_with : List Range → ℕ → ℕ → List Range
-reads_with rs k n = cond (any (same_range k n) rs || nat_le 32 (length rs)) rs (rs ++ (record { first = k; count = n } ∷ []))
+reads_with rs k n = if any (same_range k n) rs || nat_le 32 (length rs) then rs else (rs ++ (record { first = k; count = n } ∷ []))
 
 -- the first write to the key stands at i
 pub record Stands (ws : List Entry) (k i : ℕ) : Type 0 where
@@ -40,44 +40,45 @@ writes_full ws k = not (is_some (own_write k ws)) && nat_le 32 (length ws)
 
 -- there is room for the write
 abbrev pub put_room : List Entry → ℕ → Result (Unit {0}) Full
-put_room ws k = cond (writes_full ws k) (Err (record {})) (Ok tt)
+put_room ws k = if writes_full ws k then Err (record {}) else Ok tt
 
 abbrev pub writes_with : List Entry → ℕ → ℕ → List Entry
-writes_with ws k x = cond (writes_full ws k) ws (written ws k x)
+writes_with ws k x = if writes_full ws k then ws else written ws k x
 
 -- the range lies in the table, and its values have room in a buffer of this length
 abbrev pub range_answer : ℕ → ℕ → ℕ → ℕ → Result (Unit {0}) Fault
 range_answer keys room k n =
-    cond (not (nat_le (k + n) keys)) (Err (KeyOutside k))
-    (cond (nat_lt room n) (Err (ShortBuffer room))
-    (Ok tt))
+    if not (nat_le (k + n) keys) then Err (KeyOutside k)
+    else if nat_lt room n then Err (ShortBuffer room)
+    else Ok tt
 
 -- there is room for the range in an updater's read list
 abbrev pub join_answer : ℕ → ℕ → ℕ → List Range → Result (Unit {0}) Fault
-join_answer h k n rs = cond (nat_lt 0 n && reads_full rs k n) (Err (ReadListFull h)) (Ok tt)
+join_answer h k n rs = if nat_lt 0 n && reads_full rs k n then Err (ReadListFull h) else Ok tt
 
 -- the key is in the table, and there is room for it in an updater's write list
 abbrev pub write_answer : ℕ → ℕ → ℕ → List Entry → Result (Unit {0}) Fault
 write_answer keys h k ws =
-    cond (not (nat_le (k + 1) keys)) (Err (KeyOutside k))
-    (cond (writes_full ws k) (Err (WriteListFull h))
-    (Ok tt))
+    if not (nat_le (k + 1) keys) then Err (KeyOutside k)
+    else if writes_full ws k then Err (WriteListFull h)
+    else Ok tt
 
 abbrev pub on_ok : {X Y : Type 0} → Result Y Fault → X → X → X
 on_ok (Ok y) after before = after
 on_ok (Err f) after before = before
 
-abbrev pub then : Result (Unit {0}) Fault → Result (Unit {0}) Fault → Result (Unit {0}) Fault
-then (Ok u) next = next
-then (Err f) next = Err f
+-- the first of two refusals, if any
+abbrev pub first_refusal : Result (Unit {0}) Fault → Result (Unit {0}) Fault → Result (Unit {0}) Fault
+first_refusal (Ok u) next = next
+first_refusal (Err f) next = Err f
 
 -- Transactions
 
 -- whether a transaction may make a call, on a table of so many keys, with a buffer of this length
 abbrev pub admits : ℕ → ℕ → Transaction → Call → Result (Unit {0}) Fault
 admits keys room t (Begin kind) = Ok tt
-admits keys room t (Read h k n) = then (range_answer keys room k n) (cond (is_reader t.kind) (Ok tt) (join_answer h k n t.reads))
-admits keys room t (Write h k x) = cond (is_reader t.kind) (Err (ReaderWrites h)) (write_answer keys h k t.writes)
+admits keys room t (Read h k n) = first_refusal (range_answer keys room k n) (if is_reader t.kind then Ok tt else join_answer h k n t.reads)
+admits keys room t (Write h k x) = if is_reader t.kind then Err (ReaderWrites h) else write_answer keys h k t.writes
 admits keys room t (Commit h) = Ok tt
 admits keys room t (Abort h) = Ok tt
 admits keys room t Reclaim = Ok tt

@@ -1,5 +1,5 @@
 -- Where a transaction stands among the records, and what a change of one record makes of them all.
-use Rattle.std.specs.Prelude.{◌≡◌, ℕ, ◌+◌, ◌<◌, Bool, true, false, cond, not, ◌&&◌, List, ◌∷◌, length, Some, None, Ok, Err, Option, Result, nat_le, slice_set}
+use Rattle.std.specs.Prelude.{◌≡◌, ℕ, ◌+◌, ◌<◌, Bool, true, false, if◌then◌else◌, not, ◌&&◌, List, ◌∷◌, length, Some, None, Ok, Err, Option, Result, nat_le, slice_set}
 use Rattle.std.specs.List.{slice_get}
 use Rattle.ledger.specs.declared.Fault.{Fault}
 use Rattle.ledger.specs.declared.Fault.TheVariants.{NoTransaction, TooManyActive, ClockSpent}
@@ -47,9 +47,9 @@ pub record Freed (rs : List Record) (i : ℕ) (us : List Record) : Type 0 where
 -- sixteen are active, or the clock is at the last tick, or the next tick is drawn
 abbrev pub begin_answer : Table → Result ℕ Fault
 begin_answer t =
-    cond (nat_le 16 (length (active_of t.records))) (Err TooManyActive)
-    (cond (nat_le t.last t.clock) (Err (ClockSpent t.last))
-    (Ok (t.clock + 1)))
+    if nat_le 16 (length (active_of t.records)) then Err TooManyActive
+    else if nat_le t.last t.clock then Err (ClockSpent t.last)
+    else Ok (t.clock + 1)
 
 -- one transaction more, at this tick
 abbrev pub begun_active : Result ℕ Fault → Kind → List Record → List Transaction

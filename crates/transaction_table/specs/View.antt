@@ -1,5 +1,5 @@
 -- The transactions that the records of a table stand for.
-use Rattle.std.specs.Prelude.{Bool, true, false, cond, List, [], ◌∷◌}
+use Rattle.std.specs.Prelude.{Bool, true, false, if◌then◌else◌, List, [], ◌∷◌}
 use Rattle.ledger.specs.declared.Kind.{Kind}
 use Rattle.ledger.specs.declared.Kind.TheVariants.{Reader, Updater}
 use Rattle.ledger.specs.declared.Range.{Range}
@@ -34,4 +34,4 @@ view r = record { start = r.start; kind = kind_of r.state; reads = ranges r.read
 -- the active transactions, in the order of their records
 abbrev pub active_of : List Record → List Transaction
 active_of [] = []
-active_of (r ∷ rs) = cond (taken r.state) (view r ∷ active_of rs) (active_of rs)
+active_of (r ∷ rs) = if taken r.state then view r ∷ active_of rs else active_of rs

@@ -1,5 +1,5 @@
 -- Setting a validator up: what its check answers, and what is made.
-use Rattle.std.specs.Prelude.{ℕ, ◌+◌, ◌-◌, ◌/◌, Bool, cond, not, ◌||◌, Ok, Err, Result, ◌==◌, nat_lt}
+use Rattle.std.specs.Prelude.{ℕ, ◌+◌, ◌-◌, ◌/◌, Bool, if◌then◌else◌, not, ◌||◌, Ok, Err, Result, ◌==◌, nat_lt}
 use Rattle.validation.specs.declared.fault.ValidatorFault.{ValidatorFault}
 use Rattle.validation.specs.declared.fault.ValidatorFault.TheVariants.{Keys, Places, Grain}
 use Rattle.validation.specs.Meaning.{Meaning, on_ok}
@@ -14,17 +14,17 @@ keys_outside keys = keys == 0 || nat_lt 1024 keys
 -- a stamp table: the keys, then the grain, then the places, one a granule
 abbrev pub table_answer : ℕ → ℕ → ℕ → Result (Unit {0}) ValidatorFault
 table_answer keys grain places =
-    cond (keys_outside keys) (Err (Keys keys))
-    (cond (grain == 0 || nat_lt keys grain) (Err (Grain grain))
-    (cond (not (places == granules keys grain)) (Err (Places places))
-    (Ok tt)))
+    if keys_outside keys then Err (Keys keys)
+    else if grain == 0 || nat_lt keys grain then Err (Grain grain)
+    else if not (places == granules keys grain) then Err (Places places)
+    else Ok tt
 
 -- a recent list: the keys, then the places, one a key
 abbrev pub list_answer : ℕ → ℕ → Result (Unit {0}) ValidatorFault
 list_answer keys places =
-    cond (keys_outside keys) (Err (Keys keys))
-    (cond (not (places == keys)) (Err (Places places))
-    (Ok tt))
+    if keys_outside keys then Err (Keys keys)
+    else if not (places == keys) then Err (Places places)
+    else Ok tt
 
 -- nothing was noted yet
 abbrev pub fresh : ℕ → (ℕ → ℕ) → Meaning

@@ -1,5 +1,5 @@
 -- What a packed log of versions means.
-use Rattle.std.specs.Prelude.{◌≡◌, ℕ, ◌<◌, Bool, true, cond, ◌&&◌, List, [], ◌∷◌, Ok, Err, fold, Result, ◌==◌, nat_le, nat_lt}
+use Rattle.std.specs.Prelude.{◌≡◌, ℕ, ◌<◌, Bool, true, if◌then◌else◌, ◌&&◌, List, [], ◌∷◌, Ok, Err, fold, Result, ◌==◌, nat_le, nat_lt}
 use Rattle.std.specs.List.{All}
 use Rattle.versions.specs.declared.store.Version.{Version}
 use Rattle.stamped.specs.declared.looking.Moment.{Moment}
@@ -10,7 +10,7 @@ use Rattle.versions.specs.Meaning.{Meaning, any, falls, first_by}
 
 -- the versions of a key, newest first, with one more record of the log
 abbrev pub noted : ℕ → List (ℕ × ℕ) → Version → List (ℕ × ℕ)
-noted k vs v = cond (v.key == k) ((v.stamp, v.value) ∷ vs) vs
+noted k vs v = if v.key == k then (v.stamp, v.value) ∷ vs else vs
 
 -- the versions of a key in a log that has them in the order of adding
 abbrev pub versions_of : List Version → ℕ → List (ℕ × ℕ)
@@ -33,7 +33,7 @@ superseded horizon v later = any (λ w. (w.key == v.key) && nat_lt w.stamp horiz
 
 -- stamp and value of the newest version of a key that counts at a moment
 abbrev pub moment_answer : Meaning → ℕ → Moment → Result (ℕ × ℕ) StoreFault
-moment_answer m k moment = cond (nat_le m.keys k) (Err (KeyOutside k)) (Ok (first_by (counts moment) (m.versions k)))
+moment_answer m k moment = if nat_le m.keys k then Err (KeyOutside k) else Ok (first_by (counts moment) (m.versions k))
 
 -- what a cleared cell holds
 abbrev pub blank : Version

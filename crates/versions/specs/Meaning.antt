@@ -1,5 +1,5 @@
 -- What a version store means, and what each call of it answers and leaves.
-use Rattle.std.specs.Prelude.{◌≡◌, ℕ, zero, suc, ◌+◌, ◌-◌, ◌≤◌, Bool, true, cond, not, ◌&&◌, ◌||◌, ltb, List, [], ◌∷◌, length, Ok, Err, filter, Result, ◌==◌, nat_eq, nat_le, nat_lt}
+use Rattle.std.specs.Prelude.{◌≡◌, ℕ, zero, suc, ◌+◌, ◌-◌, ◌≤◌, Bool, true, if◌then◌else◌, not, ◌&&◌, ◌||◌, List, [], ◌∷◌, length, Ok, Err, filter, Result, ◌==◌, nat_eq, nat_le, nat_lt}
 use Rattle.std.specs.List.{list_any}
 use Rattle.versions.specs.declared.fault.StoreFault.{StoreFault}
 use Rattle.versions.specs.declared.fault.StoreFault.TheVariants.{Keys, Cells, KeyOutside, Full, StaleStamp}
@@ -17,14 +17,14 @@ empty keys cells = record { keys = keys; cells = cells; versions = λ k. [] }
 -- the newest version whose stamp passes the test, else the base version
 abbrev pub first_by : (ℕ → Bool) → List (ℕ × ℕ) → ℕ × ℕ
 first_by test [] = (0, 0)
-first_by test (v ∷ vs) = cond (test v.0) v (first_by test vs)
+first_by test (v ∷ vs) = if test v.0 then v else first_by test vs
 
 abbrev pub newest : List (ℕ × ℕ) → ℕ × ℕ
 newest vs = first_by (λ s. true) vs
 
 -- the newest version stamped below a tick
 abbrev pub as_of : ℕ → List (ℕ × ℕ) → ℕ × ℕ
-as_of tick vs = first_by (λ s. ltb s tick) vs
+as_of tick vs = first_by (λ s. nat_lt s tick) vs
 
 abbrev pub any : {X : Type 0} → (X → Bool) → List X → Bool
 any test xs = list_any test xs
@@ -46,21 +46,21 @@ abbrev pub free : Meaning → ℕ
 free m = m.cells - kept m
 
 abbrev pub newest_answer : Meaning → ℕ → Result (ℕ × ℕ) StoreFault
-newest_answer m k = cond (nat_le m.keys k) (Err (KeyOutside k)) (Ok (newest (m.versions k)))
+newest_answer m k = if nat_le m.keys k then Err (KeyOutside k) else Ok (newest (m.versions k))
 
 abbrev pub as_of_answer : Meaning → ℕ → ℕ → Result (ℕ × ℕ) StoreFault
-as_of_answer m k tick = cond (nat_le m.keys k) (Err (KeyOutside k)) (Ok (as_of tick (m.versions k)))
+as_of_answer m k tick = if nat_le m.keys k then Err (KeyOutside k) else Ok (as_of tick (m.versions k))
 
 abbrev pub add_answer : Meaning → ℕ → ℕ → Result (Unit {0}) StoreFault
 add_answer m k s =
-    cond (nat_le m.keys k) (Err (KeyOutside k))
-    (cond (nat_le s (newest (m.versions k)).0) (Err (StaleStamp k))
-    (cond (nat_le m.cells (kept m)) (Err (Full k))
-    (Ok tt)))
+    if nat_le m.keys k then Err (KeyOutside k)
+    else if nat_le s (newest (m.versions k)).0 then Err (StaleStamp k)
+    else if nat_le m.cells (kept m) then Err (Full k)
+    else Ok tt
 
 -- a version more at the front of one key's list
 abbrev pub put : ℕ → ℕ → ℕ → Meaning → Meaning
-put k s v m = record { keys = m.keys; cells = m.cells; versions = λ j. cond (k == j) ((s, v) ∷ m.versions j) (m.versions j) }
+put k s v m = record m { versions = λ j. if k == j then (s, v) ∷ m.versions j else m.versions j }
 
 abbrev pub on_ok : Result (Unit {0}) StoreFault → Meaning → Meaning → Meaning
 on_ok (Ok u) after before = after
@@ -75,7 +75,7 @@ survivors horizon vs = filter (λ v. not (dead horizon vs v)) vs
 
 -- the store after a prune: of each key, the versions that are not dead
 abbrev pub pruned : Meaning → ℕ → Meaning
-pruned m horizon = record { keys = m.keys; cells = m.cells; versions = λ k. survivors horizon (m.versions k) }
+pruned m horizon = record m { versions = λ k. survivors horizon (m.versions k) }
 
 abbrev pub pruned_count : Meaning → ℕ → ℕ
 pruned_count m horizon = sum_below m.keys (λ k. length (filter (dead horizon (m.versions k)) (m.versions k)))
@@ -98,9 +98,9 @@ pub record Lawful (m : Meaning) : Type 0 where
 -- set-up: the keys, then the cells
 abbrev pub set_up_answer : ℕ → ℕ → Result (Unit {0}) StoreFault
 set_up_answer keys cells =
-    cond (keys == 0 || nat_lt 1024 keys) (Err (Keys keys))
-    (cond (cells == 0 || nat_lt 2048 cells) (Err (Cells cells))
-    (Ok tt))
+    if keys == 0 || nat_lt 1024 keys then Err (Keys keys)
+    else if cells == 0 || nat_lt 2048 cells then Err (Cells cells)
+    else Ok tt
 
 -- a store just made: empty, and with no keys and no cells where its check refuses
 abbrev pub made : Result (Unit {0}) StoreFault → ℕ → ℕ → Meaning
