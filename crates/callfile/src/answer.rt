@@ -18,7 +18,8 @@ pub fn answer<'a, S: VersionStore, V: Validator>(
     buffer: &'a mut [u64],
 ) -> Line<'a>
     ensures number { result.number ≡ number }
-    ensures result { Answered S.meaning V.meaning engine.old engine.new (decoded bytes.now) number buffer.old result.result result.buffer.now }
+    ensures result { Answered S.meaning V.meaning engine.old engine.new (decoded bytes.now)
+        number buffer.old result.result result.buffer.now }
 {
     let result = perform(bytes, number, engine, buffer);
     Line {
@@ -35,7 +36,8 @@ fn perform<S: VersionStore, V: Validator>(
     engine: &mut Engine<S, V>,
     buffer: &mut [u64],
 ) -> Result<Done, CallFault>
-    ensures { Answered S.meaning V.meaning engine.old engine.new (decoded bytes.now) number buffer.old result buffer.new }
+    ensures { Answered S.meaning V.meaning engine.old engine.new (decoded bytes.now)
+        number buffer.old result buffer.new }
 {
     let call = decode(bytes).ok_or(CallFault::Malformed(number))?;
     let answer = engine.call(call, buffer);

@@ -69,7 +69,8 @@ pub fn push(heads: &mut [Link], cells: &mut [Cell], cell: u16, version: Version)
     requires low { cell < length cells.old }
     ensures rest { result ≡ (cell_at cells.old cell).next }
     ensures head { heads.new ≡ slice_set heads.old version.key (Some cell) }
-    ensures filled { cells.new ≡ slice_set cells.old cell (filled version (slice_index_or heads.old version.key None)) }
+    ensures filled { cells.new ≡ slice_set cells.old cell
+        (filled version (slice_index_or heads.old version.key None)) }
 {
     let Version { key, stamp, value } = version;
     let rest = cells[usize::from(cell)].next;
@@ -85,8 +86,10 @@ pub fn push(heads: &mut [Link], cells: &mut [Cell], cell: u16, version: Version)
 /// Ends the list from a link on behind its first cell stamped below the tick, and answers where it went on there.
 pub fn cut_below(cells: &mut [Cell], from: Link, tick: u32) -> Link
     requires { Ends cells.old from }
-    ensures tail { result ≡ behind cells.old (first_below tick cells.old (list_from cells.old from)) }
-    ensures after { cells.new ≡ ended_at cells.old (first_below tick cells.old (list_from cells.old from)) }
+    ensures tail { result ≡ behind cells.old
+        (first_below tick cells.old (list_from cells.old from)) }
+    ensures after { cells.new ≡ ended_at cells.old
+        (first_below tick cells.old (list_from cells.old from)) }
 {
     let found = usize::from(find_below(cells, from, tick)?);
     cells[found].next.take()

@@ -42,8 +42,10 @@ impl<'h, 'c> ChainStore<'h, 'c> {
 
     /// An empty store with all cells cleared and unused; one without keys and cells where the check refuses.
     pub fn make(keys: u16, heads: &'h mut [Link], cells: &'c mut [Cell]) -> ChainStore<'h, 'c>
-        ensures empty { chain_meaning result ≡ made (chain_set_up keys (length heads.old) (length cells.old)) keys (length cells.old) }
-        ensures cleared { (heads_of result ≡ replicate (length (heads_of result)) None) × (cells_of result ≡ laid (length (cells_of result))) }
+        ensures empty { chain_meaning result ≡
+            made (chain_set_up keys (length heads.old) (length cells.old)) keys (length cells.old) }
+        ensures cleared { (heads_of result ≡ replicate (length (heads_of result)) None) ×
+            (cells_of result ≡ laid (length (cells_of result))) }
         ensures unused { unused_of result ≡ before (length (cells_of result)) }
     {
         heads.fill(None);

@@ -31,17 +31,23 @@ pub data Carded (k x : ℕ) : Result Said Fault → List Made → Type 0 where
   carded : (r : Result Verdict Fault) (ns : List Made) → Posted k x r ns → Carded k x (Ok (SaidCard k x r)) ns
 
 -- Work a recalculation out and leave it open, unless one is open already.
-pub data Recalculated (k n x : ℕ) : Option Recalculation → Option Recalculation → Result Said Fault → List Made → Type 0 where
+pub data Recalculated (k n x : ℕ) : Option Recalculation → Option Recalculation → Result Said Fault
+    → List Made → Type 0 where
   already_open : (w : Recalculation) → Recalculated k n x (Some w) (Some w) (Ok AlreadyOpen) []
   not_left_open : (f : Fault) (ns : List Made) → WorkedOut k n x (Err f) ns → Recalculated k n x None None (Err f) ns
-  left_open : (w : Recalculation) (ns : List Made) → WorkedOut k n x (Ok w) ns → Recalculated k n x None (Some w) (Ok (SaidOpen w)) ns
+  left_open : (w : Recalculation) (ns : List Made) → WorkedOut k n x (Ok w) ns
+      → Recalculated k n x None (Some w) (Ok (SaidOpen w)) ns
 
 -- Finish the recalculation that is open; one that is restarted is done again.
 pub data Finishes : Option Recalculation → Result Said Fault → List Made → Type 0 where
   none_open : Finishes None (Ok NoneOpen) []
-  not_finished : (w : Recalculation) (f : Fault) (ns : List Made) → Finished w.handle w.index w.value (Err f) ns → Finishes (Some w) (Err f) ns
-  ends : (w : Recalculation) (v : Verdict) (ns : List Made) → ((k s : ℕ) → v ≡ Restart k s → ⊥) → Finished w.handle w.index w.value (Ok v) ns → Finishes (Some w) (Ok (SaidEnded v)) ns
-  restarts : (w : Recalculation) (k s : ℕ) (r : Result Redone Fault) (ns ms : List Made) → Finished w.handle w.index w.value (Ok (Restart k s)) ns → Redid w r ms → Finishes (Some w) (Ok (Restarted k s r)) (ms ++ ns)
+  not_finished : (w : Recalculation) (f : Fault) (ns : List Made)
+      → Finished w.handle w.index w.value (Err f) ns → Finishes (Some w) (Err f) ns
+  ends : (w : Recalculation) (v : Verdict) (ns : List Made) → ((k s : ℕ) → v ≡ Restart k s → ⊥)
+      → Finished w.handle w.index w.value (Ok v) ns → Finishes (Some w) (Ok (SaidEnded v)) ns
+  restarts : (w : Recalculation) (k s : ℕ) (r : Result Redone Fault) (ns ms : List Made)
+      → Finished w.handle w.index w.value (Ok (Restart k s)) ns → Redid w r ms
+      → Finishes (Some w) (Ok (Restarted k s r)) (ms ++ ns)
 
 -- Open a report: begin a reader.
 pub data Reported : Result Said Fault → List Made → Type 0 where

@@ -20,7 +20,9 @@ behind (c ∷ cs) = if c == 32 then cs else behind cs
 -- the number that more digits make of n, if it is at most the given one
 abbrev pub digits_on : ℕ → List ℕ → ℕ → Option ℕ
 digits_on n [] most = Some n
-digits_on n (c ∷ cs) most = if nat_le 48 c && (nat_le c 57 && nat_le (n * 10 + (c - 48)) most) then digits_on (n * 10 + (c - 48)) cs most else None
+digits_on n (c ∷ cs) most =
+    if nat_le 48 c && (nat_le c 57 && nat_le (n * 10 + (c - 48)) most) then digits_on (n * 10 + (c - 48)) cs most
+    else None
 
 -- a decimal number: at least one digit, and at most the given one
 abbrev pub number : List ℕ → ℕ → Option ℕ

@@ -31,7 +31,9 @@ end_text (Ok v) = verdict_text v
 end_text (Err f) = refused_text f
 
 abbrev pub recalculation_text : Recalculation → List ℕ
-recalculation_text w = codes "recalculation " ++ (decimal w.handle ++ (codes " read " ++ (decimal w.count ++ (codes " rounds: index " ++ (decimal w.value ++ (codes " for key " ++ decimal w.index))))))
+recalculation_text w =
+    codes "recalculation " ++ (decimal w.handle ++ (codes " read " ++ (decimal w.count ++ (codes " rounds: index "
+    ++ (decimal w.value ++ (codes " for key " ++ decimal w.index))))))
 
 abbrev pub redone_text : Redone → List ℕ
 redone_text d = recalculation_text d.work ++ (codes ", " ++ end_text d.end)
@@ -42,7 +44,8 @@ again_text (Err f) = refused_text f
 
 abbrev pub said_text : Said → List ℕ
 said_text (Card k x r) = codes "card " ++ (decimal x ++ (codes " for key " ++ (decimal k ++ (codes ": " ++ end_text r))))
-said_text (Correction k x was r) = codes "card " ++ (decimal x ++ (codes " for key " ++ (decimal k ++ (codes " in place of " ++ (decimal was ++ (codes ": " ++ end_text r))))))
+said_text (Correction k x was r) =
+    codes "card " ++ (decimal x ++ (codes " for key " ++ (decimal k ++ (codes " in place of " ++ (decimal was ++ (codes ": " ++ end_text r))))))
 said_text (Opened w) = recalculation_text w
 said_text AlreadyOpen = codes "a recalculation is open already"
 said_text NoneOpen = codes "no recalculation is open"

@@ -58,7 +58,8 @@ impl<S: VersionStore, V: Validator> Desk<S, V> {
 
     // First, count and index stand apart here as in the event.
     fn recalculate(&mut self, first: u16, count: u16, index: u16) -> Result<Said, Fault>
-        ensures { Makes S.meaning V.meaning self.old.engine self.new.engine (Recalculated first count index self.old.pending self.new.pending result) }
+        ensures { Makes S.meaning V.meaning self.old.engine self.new.engine
+            (Recalculated first count index self.old.pending self.new.pending result) }
     {
         if self.pending.is_some() {
             return Ok(Said::AlreadyOpen);
@@ -70,7 +71,8 @@ impl<S: VersionStore, V: Validator> Desk<S, V> {
 
     /// Commits the recalculation; one that is restarted is done again at once.
     fn finish(&mut self) -> Result<Said, Fault>
-        ensures makes { Makes S.meaning V.meaning self.old.engine self.new.engine (Finishes self.old.pending result) }
+        ensures makes { Makes S.meaning V.meaning self.old.engine self.new.engine
+            (Finishes self.old.pending result) }
         ensures pending { self.new.pending ≡ None }
     {
         let Some(work) = self.pending.take() else {

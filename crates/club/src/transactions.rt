@@ -16,7 +16,8 @@ pub fn open<S: VersionStore, V: Validator>(
     count: u16,
     rounds: &mut [u64],
 ) -> Result<u32, Fault>
-    ensures { Makes S.meaning V.meaning engine.old engine.new (Opened first count rounds.old rounds.new result) }
+    ensures { Makes S.meaning V.meaning engine.old engine.new
+        (Opened first count rounds.old rounds.new result) }
 {
     let handle = engine.begin(Kind::Updater)?;
     // No `inspect_err`: with the abort in a closure, which was tried, the steps made did not prove.

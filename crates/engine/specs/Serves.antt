@@ -29,7 +29,8 @@ pub record Steps (l : Ledger) (c : Call) (b : List ℕ) (a : Answer) (b' : List 
 
 -- each ledger that fits before the call tells the answer and the buffer, and fits a step further after it
 abbrev pub Serves : {S V : Type 0} → (S → Store) → (V → Stamps) → Engine S V → Engine S V → Call → List ℕ → Answer → List ℕ → Type 0
-Serves m p e e' c b a b' = (l : Ledger) → Fits l e.table (m e.store) (p e.validator) → Steps l c b a b' e'.table (m e'.store) (p e'.validator)
+Serves m p e e' c b a b' = (l : Ledger) → Fits l e.table (m e.store) (p e.validator)
+    → Steps l c b a b' e'.table (m e'.store) (p e'.validator)
 
 -- the same of a call that is lent no buffer: whatever it is, it is left as it was
 abbrev pub ServesBare : {S V : Type 0} → (S → Store) → (V → Stamps) → Engine S V → Engine S V → Call → Answer → Type 0

@@ -11,4 +11,6 @@ value_in (Err f) = 0
 
 -- a reader as of its start, an updater its own write or else the newest value
 abbrev pub shown : Store → Transaction → ℕ → ℕ
-shown s t k = if is_reader t.kind then value_in (as_of_answer s k t.start) else unwrap_or (own_write k t.writes) (value_in (newest_answer s k))
+shown s t k =
+    if is_reader t.kind then value_in (as_of_answer s k t.start)
+    else unwrap_or (own_write k t.writes) (value_in (newest_answer s k))

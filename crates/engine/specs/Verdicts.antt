@@ -20,7 +20,8 @@ abbrev pub with_room : Ledger → ℕ → Ledger
 with_room l n = if nat_lt (free l) n then reclaimed l else l
 
 abbrev pub MakesRoom : {S V : Type 0} → (S → Store) → (V → Stamps) → Engine S V → Engine S V → ℕ → Type 0
-MakesRoom m p e e' n = (l : Ledger) → 0 < e.table.last → Fits l e.table (m e.store) (p e.validator) → Fits (with_room l n) e'.table (m e'.store) (p e'.validator)
+MakesRoom m p e e' n = (l : Ledger) → 0 < e.table.last → Fits l e.table (m e.store) (p e.validator)
+    → Fits (with_room l n) e'.table (m e'.store) (p e'.validator)
 
 -- the verdict is that of the outcome, and but for the record, which is still taken, the outcome's ledger fits; ts are its transactions
 pub record Judged (o : Outcome) (b : List ℕ) (ts : List Transaction) (verdict : Verdict) (t t' : Table) (s : Store) (v : Stamps) : Type 0 where

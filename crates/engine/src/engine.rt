@@ -52,7 +52,8 @@ impl<S: VersionStore, V: Validator> Engine<S, V> {
     pub fn make(last: u32, store: S, validator: V) -> Engine<S, V>
         ensures store { store_of result ≡ store }
         ensures validator { validator_of result ≡ validator }
-        ensures last { (table_of result).last ≡ last_of last (S.meaning store) (V.meaning validator) }
+        ensures last { (table_of result).last ≡
+            last_of last (S.meaning store) (V.meaning validator) }
         ensures fits { FitsNew S.meaning V.meaning result }
     {
         let last = Self::check(last, &store, &validator).map_or(0, |()| last);
@@ -66,7 +67,8 @@ impl<S: VersionStore, V: Validator> Engine<S, V> {
     /// Begins a transaction, and gives its handle.
     pub fn begin(&mut self, kind: Kind) -> Result<u32, Fault>
         ensures answer { result ≡ begin_answer (table_of self.old) }
-        ensures serves { ServesBare S.meaning V.meaning self.old self.new (Begin kind) (told Began result) }
+        ensures serves { ServesBare S.meaning V.meaning self.old self.new
+            (Begin kind) (told Began result) }
         ensures idle { Idle self.old self.new }
     {
         self.table.begin(kind)
@@ -81,7 +83,8 @@ impl<S: VersionStore, V: Validator> Engine<S, V> {
         count: u16,
         buffer: &mut [u64],
     ) -> Result<(), Fault>
-        ensures serves { Serves S.meaning V.meaning self.old self.new (Read handle first count) buffer.old (told (λ _. ReadDone) result) buffer.new }
+        ensures serves { Serves S.meaning V.meaning self.old self.new
+            (Read handle first count) buffer.old (told (λ _. ReadDone) result) buffer.new }
         ensures idle { Idle self.old self.new }
     {
         let slot = self.place(handle)?;
@@ -95,7 +98,8 @@ impl<S: VersionStore, V: Validator> Engine<S, V> {
     /// Notes a value to be written to a key when the transaction is committed.
     // Key and value stand apart, as the caller of a call gives them; behind it they are a `Write`.
     pub fn write(&mut self, handle: u32, key: u16, value: u64) -> Result<(), Fault>
-        ensures serves { ServesBare S.meaning V.meaning self.old self.new (Write handle key value) (told (λ _. Wrote) result) }
+        ensures serves { ServesBare S.meaning V.meaning self.old self.new
+            (Write handle key value) (told (λ _. Wrote) result) }
         ensures idle { Idle self.old self.new }
     {
         let slot = self.place(handle)?;
@@ -106,7 +110,8 @@ impl<S: VersionStore, V: Validator> Engine<S, V> {
 
     /// Ends a transaction, and nothing that it wrote is kept.
     pub fn abort(&mut self, handle: u32) -> Result<(), Fault>
-        ensures serves { ServesBare S.meaning V.meaning self.old self.new (Abort handle) (told (λ _. Aborted) result) }
+        ensures serves { ServesBare S.meaning V.meaning self.old self.new
+            (Abort handle) (told (λ _. Aborted) result) }
         ensures idle { Idle self.old self.new }
     {
         self.table.release(handle)
@@ -115,7 +120,8 @@ impl<S: VersionStore, V: Validator> Engine<S, V> {
     /// The place of the transaction with this handle, if there is one.
     fn place(&self, handle: u32) -> Result<usize, Fault>
         ensures there { IfOk result (Here self.now.table.records handle) }
-        ensures missing { IfErr result (λ fault. (fault ≡ NoTransaction handle) × (found (active_of self.now.table.records) handle ≡ None)) }
+        ensures missing { IfErr result (λ fault. (fault ≡ NoTransaction handle) ×
+            (found (active_of self.now.table.records) handle ≡ None)) }
     {
         self.table.find(handle).ok_or(Fault::NoTransaction(handle))
     }
@@ -125,7 +131,8 @@ impl<S: VersionStore, V: Validator> Engine<S, V> {
 fn fill<S: VersionStore>(store: &S, taker: &Record, range: Range, buffer: &mut [u64])
     requires count_in_bounds { range.count ≤ length buffer.old }
     requires count_bound { range.first + range.count < 2 ^ 16 }
-    ensures { buffer.new ≡ map (shown (S.meaning store.now) (view taker.now)) (keys_from range.first range.count) ++ drop range.count buffer.old }
+    ensures { buffer.new ≡ map (shown (S.meaning store.now) (view taker.now))
+        (keys_from range.first range.count) ++ drop range.count buffer.old }
 {
     // No `zip` with the keys: of what a loop writes through a `zip` no proof knows the values.
     let front = &mut buffer[..usize::from(range.count)];

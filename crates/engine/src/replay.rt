@@ -29,7 +29,10 @@ pub fn replay<S: VersionStore + Drop, V: Validator + Drop>(
     requests: &mut [Request],
     buffers: &mut [u64],
 ) -> Engine<S, V>
-    ensures { Replayed S.meaning V.meaning (limits_of (last_of last (S.meaning store) (V.meaning validator)) (S.meaning store) (V.meaning validator)) requests.old requests.new buffers.old buffers.new result }
+    ensures { Replayed S.meaning V.meaning
+        (limits_of (last_of last (S.meaning store) (V.meaning validator))
+        (S.meaning store) (V.meaning validator))
+        requests.old requests.new buffers.old buffers.new result }
 {
     let mut engine = Engine::make(last, store, validator);
     // By index: of a slice that a loop hands on by `split_at_mut` no proof knows what was written.

@@ -83,7 +83,8 @@ pub struct Writing<'s, K: Leave> {
 impl<S: VersionStore, V: Validator> Engine<S, V> {
     /// Begins a transaction of the slip's kind.
     pub fn begin_slip<K: Leave>(&mut self) -> Result<Slip<K>, Fault>
-        ensures serves { ServesBare S.meaning V.meaning self.old self.new (Begin K.KIND) (told (λ s. Began (handle_of s)) result) }
+        ensures serves { ServesBare S.meaning V.meaning self.old self.new
+            (Begin K.KIND) (told (λ s. Began (handle_of s)) result) }
         ensures held { IfOk result (λ s. 0 < handle_of s) }
         ensures idle { Idle self.old self.new }
     {
@@ -101,7 +102,9 @@ impl<S: VersionStore, V: Validator> Engine<S, V> {
         count: u16,
         buffer: &mut [u64],
     ) -> Result<(), Fault>
-        ensures serves { Serves S.meaning V.meaning self.old self.new (Read (handle_of slip.now) first count) buffer.old (told (λ _. ReadDone) result) buffer.new }
+        ensures serves { Serves S.meaning V.meaning self.old self.new
+            (Read (handle_of slip.now) first count)
+            buffer.old (told (λ _. ReadDone) result) buffer.new }
         ensures idle { Idle self.old self.new }
     {
         self.read(slip.handle, first, count, buffer)
@@ -114,7 +117,8 @@ impl<S: VersionStore, V: Validator> Engine<S, V> {
         key: u16,
         value: u64,
     ) -> Result<(), Fault>
-        ensures serves { ServesBare S.meaning V.meaning self.old self.new (Write (handle_of under.entry.slip.now) key value) (told (λ _. Wrote) result) }
+        ensures serves { ServesBare S.meaning V.meaning self.old self.new
+            (Write (handle_of under.entry.slip.now) key value) (told (λ _. Wrote) result) }
         ensures idle { Idle self.old self.new }
     {
         self.write(under.slip.handle, key, value)
@@ -122,7 +126,8 @@ impl<S: VersionStore, V: Validator> Engine<S, V> {
 
     /// Takes the slip, even if it refuses.
     pub fn commit_under<K>(&mut self, slip: Slip<K>) -> Result<Verdict, Fault>
-        ensures serves { ServesBare S.meaning V.meaning self.old self.new (Commit (handle_of slip)) (told Ended result) }
+        ensures serves { ServesBare S.meaning V.meaning self.old self.new
+            (Commit (handle_of slip)) (told Ended result) }
         ensures idle { Idle self.old self.new }
     {
         self.commit(slip.spent())
@@ -130,7 +135,8 @@ impl<S: VersionStore, V: Validator> Engine<S, V> {
 
     /// Takes the slip, even if it refuses.
     pub fn abort_under<K>(&mut self, slip: Slip<K>) -> Result<(), Fault>
-        ensures serves { ServesBare S.meaning V.meaning self.old self.new (Abort (handle_of slip)) (told (λ _. Aborted) result) }
+        ensures serves { ServesBare S.meaning V.meaning self.old self.new
+            (Abort (handle_of slip)) (told (λ _. Aborted) result) }
         ensures idle { Idle self.old self.new }
     {
         self.abort(slip.spent())

@@ -65,7 +65,9 @@ begin_call l b kind =
 
 -- what a transaction reads at a key: a reader as of its start, an updater its own write or else the newest value
 abbrev pub seen : Ledger → Transaction → ℕ → ℕ
-seen l t k = if is_reader t.kind then value_below k t.start l.versions else unwrap_or (own_write k t.writes) (newest_value k l.versions)
+seen l t k =
+    if is_reader t.kind then value_below k t.start l.versions
+    else unwrap_or (own_write k t.writes) (newest_value k l.versions)
 
 -- the keys k, k + 1, .., n of them
 abbrev pub keys_from : ℕ → ℕ → List ℕ

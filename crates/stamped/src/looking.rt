@@ -25,7 +25,8 @@ impl Moment {
 
 /// The index of the last record of the key that counts at the moment, or none where no record is such.
 pub fn find_last<T: Stamped>(records: &[T], key: u16, moment: Moment) -> Option<usize>
-    ensures { Last (λ x. Of key moment (T.Stamped.key_of x) (T.Stamped.stamp_of x)) records.now result }
+    ensures { Last (λ x. Of key moment (T.Stamped.key_of x) (T.Stamped.stamp_of x))
+        records.now result }
 {
     records.iter().rposition(|record| record.key() == key && moment.takes(record.stamp()))
 }

@@ -50,7 +50,8 @@ impl<'a, T: Copy> Packed<'a, T> {
     /// Puts an entry behind the others, or gives it back where no place is left.
     pub fn push(&mut self, entry: T) -> Result<(), T>
         ensures fits { IsOk result ↔ (0 < length self.old.rest) }
-        ensures pushed { OnOk result (self.new ≡ record { records = self.old.records ++ entry ∷ []; rest = drop 1 self.old.rest }) }
+        ensures pushed { OnOk result (self.new ≡
+            record { records = self.old.records ++ entry ∷ []; rest = drop 1 self.old.rest }) }
         ensures full { OnErr result (self.new ≡ self.old) }
         ensures back { IfErr result (λ e. e ≡ entry) }
     {

@@ -102,7 +102,9 @@ impl Record {
         ensures state { self.new.state ≡ self.old.state }
         ensures start { self.new.start ≡ self.old.start }
         ensures reads { self.new.reads ≡ self.old.reads }
-        ensures writes { entries self.new.writes ≡ on_ok result (written (entries self.old.writes) write.key write.value) (entries self.old.writes) }
+        ensures writes { entries self.new.writes ≡
+            on_ok result (written (entries self.old.writes) write.key write.value)
+            (entries self.old.writes) }
     {
         if write.key >= keys {
             return Err(Fault::KeyOutside(write.key));
@@ -114,11 +116,14 @@ impl Record {
 
     /// An updater's read of a range that it may read.
     fn take_read(&mut self, handle: u32, range: Range) -> Result<(), Fault>
-        ensures answer { result ≡ join_answer handle range.first range.count (ranges self.old.reads) }
+        ensures answer { result ≡ join_answer handle range.first range.count
+            (ranges self.old.reads) }
         ensures state { self.new.state ≡ self.old.state }
         ensures start { self.new.start ≡ self.old.start }
         ensures writes { self.new.writes ≡ self.old.writes }
-        ensures reads { ranges self.new.reads ≡ (if nat_eq range.count 0 then ranges self.old.reads else reads_with (ranges self.old.reads) range.first range.count) }
+        ensures reads { ranges self.new.reads ≡
+            (if nat_eq range.count 0 then ranges self.old.reads
+            else reads_with (ranges self.old.reads) range.first range.count) }
     {
         // A range of no keys reads nothing, so nothing can clash with it.
         if range.count == 0 {

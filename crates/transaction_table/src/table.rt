@@ -52,7 +52,8 @@ impl Table {
         ensures answer { result ≡ begin_answer self.old }
         ensures clock { self.new.clock ≡ on_ok result (self.old.clock + 1) self.old.clock }
         ensures last { self.new.last ≡ self.old.last }
-        ensures active { Shuffle (begun_active result kind self.old.records) (active_of self.new.records) }
+        ensures active { Shuffle (begun_active result kind self.old.records)
+            (active_of self.new.records) }
     {
         let slot = self.vacant().ok_or(Fault::TooManyActive)?;
         if self.clock >= self.last {
@@ -75,7 +76,8 @@ impl Table {
 
     /// The least start tick of the transactions of this kind, or without any the next tick.
     pub fn least_start(&self, kind: Kind) -> u32
-        ensures { result ≡ least_start (of_kind kind) (min (self.now.clock + 1) (2 ^ 32 - 1)) (active_of self.now.records) }
+        ensures { result ≡ least_start (of_kind kind) (min (self.now.clock + 1) (2 ^ 32 - 1))
+            (active_of self.now.records) }
     {
         let next = self.clock.saturating_add(1);
         self.records

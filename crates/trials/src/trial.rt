@@ -83,7 +83,8 @@ impl FromStr for Setting {
 /// The number that a word writes.
 fn number<N: FromStr<Err = ParseIntError> + Drop>(word: Option<&str>) -> Result<N, SettingError>
     ensures ok { IfOk result (λ n. IsSomeAnd word.entry (λ w. N.from_str_gives w.now (Ok n))) }
-    ensures err { IfErr result (λ e. MatchOption word.entry (e ≡ Short) (λ w. (cause : ParseIntError) × ((e ≡ Number cause) × N.from_str_gives w.now (Err cause)))) }
+    ensures err { IfErr result (λ e. MatchOption word.entry (e ≡ Short) (λ w.
+        (cause : ParseIntError) × ((e ≡ Number cause) × N.from_str_gives w.now (Err cause)))) }
 {
     let word = word.ok_or(SettingError::Short)?;
     Ok(word.parse::<N>()?)

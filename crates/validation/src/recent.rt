@@ -66,7 +66,8 @@ impl<'a> RecentList<'a> {
 
     /// An empty list over cleared entries; one without keys where the check refuses.
     pub fn make(keys: u16, entries: &'a mut [Entry]) -> RecentList<'a>
-        ensures fresh { list_meaning result ≡ made (list_answer keys (length entries.old)) keys (λ k. k) }
+        ensures fresh { list_meaning result ≡
+            made (list_answer keys (length entries.old)) keys (λ k. k) }
         ensures none { entries_of result ≡ [] }
         ensures clear { places_behind result ≡ replicate (length (places_behind result)) blank }
     {

@@ -37,7 +37,8 @@ impl<'a> StampTable<'a> {
 
     /// A table of cleared stamps; one without keys where the check refuses.
     pub fn make(keys: u16, grain: u16, stamps: &'a mut [u32]) -> StampTable<'a>
-        ensures fresh { table_meaning result ≡ made (table_answer keys grain (length stamps.old)) keys (λ k. k / grain) }
+        ensures fresh { table_meaning result ≡
+            made (table_answer keys grain (length stamps.old)) keys (λ k. k / grain) }
         ensures clear { stamps_of result ≡ replicate (length (stamps_of result)) 0 }
     {
         stamps.fill(0);

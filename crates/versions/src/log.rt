@@ -44,7 +44,8 @@ impl<'a> LogStore<'a> {
 
     /// An empty store over cleared cells; one without keys and cells where the check refuses.
     pub fn make(keys: u16, cells: &'a mut [Version]) -> LogStore<'a>
-        ensures empty { log_meaning result ≡ made (set_up_answer keys (length cells.old)) keys (length cells.old) }
+        ensures empty { log_meaning result ≡
+            made (set_up_answer keys (length cells.old)) keys (length cells.old) }
         ensures none { log_of result ≡ [] }
         ensures cleared { cells_behind result ≡ replicate (length (cells_behind result)) blank }
     {

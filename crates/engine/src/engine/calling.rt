@@ -9,16 +9,19 @@ use versions::store::VersionStore;
 impl<S: VersionStore, V: Validator> Engine<S, V> {
     /// Makes a call. A read fills the front of the buffer; no other call touches it.
     pub fn call(&mut self, call: Call, buffer: &mut [u64]) -> Answer
-        ensures serves { Serves S.meaning V.meaning self.old self.new call buffer.old result buffer.new }
+        ensures serves { Serves S.meaning V.meaning self.old self.new
+            call buffer.old result buffer.new }
         ensures idle { Idle self.old self.new }
-        ensures history { GoesOn S.meaning V.meaning self.old self.new call buffer.old result buffer.new }
+        ensures history { GoesOn S.meaning V.meaning self.old self.new
+            call buffer.old result buffer.new }
     {
         self.try_call(call, buffer).unwrap_or_else(Answer::Refused)
     }
 
     /// The answer of a call that is not refused.
     fn try_call(&mut self, call: Call, buffer: &mut [u64]) -> Result<Answer, Fault>
-        ensures serves { Serves S.meaning V.meaning self.old self.new call buffer.old (told (λ a. a) result) buffer.new }
+        ensures serves { Serves S.meaning V.meaning self.old self.new
+            call buffer.old (told (λ a. a) result) buffer.new }
         ensures idle { Idle self.old self.new }
     {
         match call {

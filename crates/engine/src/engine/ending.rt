@@ -19,7 +19,8 @@ use versions::store::VersionStore;
 impl<S: VersionStore, V: Validator> Engine<S, V> {
     /// Removes the versions that no transaction reads, now or later, and answers how many.
     pub fn reclaim(&mut self) -> u16
-        ensures serves { ServesBare S.meaning V.meaning self.old self.new Reclaim (Reclaimed result) }
+        ensures serves { ServesBare S.meaning V.meaning self.old self.new
+            Reclaim (Reclaimed result) }
         ensures table { table_of self.new ≡ table_of self.old }
         ensures idle { (table_of self.old).last ≡ 0 → (result ≡ 0) × (self.new ≡ self.old) }
     {
@@ -35,7 +36,8 @@ impl<S: VersionStore, V: Validator> Engine<S, V> {
     /// Ends a transaction. A reader is closed; an updater is committed, unless something that it read
     /// was committed since it began, or ticks or cells are lacking.
     pub fn commit(&mut self, handle: u32) -> Result<Verdict, Fault>
-        ensures serves { ServesBare S.meaning V.meaning self.old self.new (Commit handle) (told Ended result) }
+        ensures serves { ServesBare S.meaning V.meaning self.old self.new
+            (Commit handle) (told Ended result) }
         ensures idle { Idle self.old self.new }
     {
         let slot = self.place(handle)?;
@@ -84,7 +86,8 @@ impl<S: VersionStore, V: Validator> Engine<S, V> {
 
     /// The first clash of an updater: the key, and its granule's stamp.
     fn first_clash(&self, updater: &Record) -> Option<(u16, u32)>
-        ensures { result ≡ first_named (V.meaning self.now.validator) updater.now.start (ranges updater.now.reads) }
+        ensures { result ≡ first_named (V.meaning self.now.validator) updater.now.start
+            (ranges updater.now.reads) }
     {
         let reads = updater.reads.as_slice();
         // Not `find_map`: a loop that a match leaves by its label is a form that this project has to show.
@@ -103,7 +106,8 @@ impl<S: VersionStore, V: Validator> Engine<S, V> {
 
     /// The first key of the range that clashes with a start, and its granule's stamp.
     fn clash_in(&self, range: Range, start: u32) -> Option<(u16, u32)>
-        ensures { result ≡ named (clash_answer (V.meaning self.now.validator) range.first range.count start) }
+        ensures { result ≡ named
+            (clash_answer (V.meaning self.now.validator) range.first range.count start) }
     {
         // The ranges of a read list are in the table, so the validator refuses none.
         self.validator
@@ -114,8 +118,10 @@ impl<S: VersionStore, V: Validator> Engine<S, V> {
     /// Adds a version for each write, stamped with the last tick drawn, and notes its key.
     fn install(&mut self, writes: &[Write])
         ensures table { self.new.table ≡ self.old.table }
-        ensures store { S.meaning self.new.store ≡ all_added self.old.table.clock (S.meaning self.old.store) writes.now }
-        ensures validator { V.meaning self.new.validator ≡ all_noted self.old.table.clock (V.meaning self.old.validator) writes.now }
+        ensures store { S.meaning self.new.store ≡
+            all_added self.old.table.clock (S.meaning self.old.store) writes.now }
+        ensures validator { V.meaning self.new.validator ≡
+            all_noted self.old.table.clock (V.meaning self.old.validator) writes.now }
     {
         let tick = self.table.clock;
         for write in writes {
