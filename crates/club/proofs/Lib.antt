@@ -1,5 +1,6 @@
 mod Makings
 mod Means
+mod Moments
 mod Recalculations
 mod Texts
 mod Words

@@ -1,5 +1,6 @@
 -- What each event of an afternoon does: the calls that it makes, what is said of them, and the recalculation that stays open.
-use Rattle.std.specs.Prelude.{◌≡◌, ℕ, List, [], ◌∷◌, ◌++◌, Some, None, Option, Ok, Err, Result}
+use Rattle.std.specs.Prelude.{◌≡◌, ℕ, List, [], ◌∷◌, ◌++◌, Some, None, Option, Ok, Err, IfOk, Result}
+use Rattle.std.specs.Bool.{⊤}
 use Rattle.ledger.specs.declared.Kind.TheVariants.{Reader}
 use Rattle.ledger.specs.declared.Call.TheVariants.{Begin, Commit, Reclaim}
 use Rattle.ledger.specs.declared.Fault.{Fault}
@@ -20,6 +21,7 @@ use Rattle.club.specs.declared.said.Recalculation.{Recalculation}
 use Rattle.club.specs.declared.said.Redone.{Redone}
 use Rattle.club.specs.declared.said.Said.{Said}
 use Rattle.club.specs.declared.said.Said.TheVariants.{Card as SaidCard, Recalculation as SaidOpen, AlreadyOpen, NoneOpen, Ended as SaidEnded, Restarted, Report as SaidReport, Removed}
+use Rattle.club.specs.Moments.{ShowsNow, ShowsOpening}
 use Rattle.club.specs.Transactions.{Makes, Finished, Posted, Corrected, WorkedOut, Redid, Listed, Shown}
 
 -- what is said of a result; its fault is told as it is
@@ -81,9 +83,22 @@ carried (Err f) = Err (InEngine f)
 abbrev pub new_desk : {S V : Type 0} → Engine S V → Desk S V
 new_desk e = record { engine = e; pending = None }
 
+-- what is shown: a list the club as it is now, a report the club as it was when the report was opened
+abbrev pub Shows : {S V : Type 0} → (S → Store) → (V → Stamps) → Engine S V → Event → Result Said Fault → Type 0
+Shows m p e (Card k x) r = ⊤
+Shows m p e (Correction k x) r = ⊤
+Shows m p e (ToRecalculate k n x) r = ⊤
+Shows m p e Finish r = ⊤
+Shows m p e ToList r = IfOk r (ShowsNow m p e)
+Shows m p e Report r = ⊤
+Shows m p e (Show h) r = IfOk r (ShowsOpening m p e h)
+Shows m p e (Close h) r = ⊤
+Shows m p e CleanUp r = ⊤
+
 -- from d to d' an event was done and answered r
-abbrev pub Does : {S V : Type 0} → (S → Store) → (V → Stamps) → Desk S V → Desk S V → Event → Result Said Fault → Type 0
-Does m p d d' e r = Makes m p d.engine d'.engine (Acts e d.pending d'.pending r)
+pub record Does {S V : Type 0} (m : S → Store) (p : V → Stamps) (d d' : Desk S V) (e : Event) (r : Result Said Fault) : Type 0 where
+  pub makes : Makes m p d.engine d'.engine (Acts e d.pending d'.pending r)
+  pub shows : Shows m p d.engine e r
 
 -- From d to d' a line was answered r, by the event that it tells of.
 

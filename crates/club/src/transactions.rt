@@ -1,4 +1,6 @@
 //! The transactions that a club's events are made of, on any engine.
+ghost use Rattle.std.specs.Prelude.{IfOk};
+ghost use Rattle.club.specs.Moments.{ShowsNow, ShowsOpening};
 ghost use Rattle.club.specs.Transactions.{Makes, Opened, Finished, Posted, Corrected, WorkedOut, Redid, Listed, Shown};
 
 use crate::index::index_of;
@@ -107,7 +109,8 @@ pub fn redo<S: VersionStore, V: Validator>(
 
 /// The club list: a reader with a slip in hand, which has to be given up.
 pub fn list<S: VersionStore, V: Validator>(engine: &mut Engine<S, V>) -> Result<Said, Fault>
-    ensures { Makes S.meaning V.meaning engine.old engine.new (Listed result) }
+    ensures makes { Makes S.meaning V.meaning engine.old engine.new (Listed result) }
+    ensures now { IfOk result (ShowsNow S.meaning V.meaning engine.old) }
 {
     let mut values = [0; KEYS as usize];
     let slip = engine.begin_slip::<Reading>()?;
@@ -122,7 +125,8 @@ pub fn show<S: VersionStore, V: Validator>(
     engine: &mut Engine<S, V>,
     report: u32,
 ) -> Result<Said, Fault>
-    ensures { Makes S.meaning V.meaning engine.old engine.new (Shown report result) }
+    ensures makes { Makes S.meaning V.meaning engine.old engine.new (Shown report result) }
+    ensures opening { IfOk result (ShowsOpening S.meaning V.meaning engine.old report) }
 {
     let mut values = [0; KEYS as usize];
     engine.read(report, 0, KEYS, &mut values)?;

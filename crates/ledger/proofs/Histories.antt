@@ -157,7 +157,7 @@ inv n (m ∷ ms) t =
     let i = inv_step (story ms) (inv n ms t.2) (way (after n ms) m.call m.given) in
     retold (ap (λ a. told (story ms) m.call a o.buffer) (sym t.0) ∙ ap (λ b. told (story ms) m.call m.answer b) (sym t.1)) i
 
-table_is : (ms : List Made) (t : ℕ) → table ms t ≡ tab (story ms) t
+pub table_is : (ms : List Made) (t : ℕ) → table ms t ≡ tab (story ms) t
 table_is ms zero = refl
 table_is ms (suc t) = ap (run (acts_of (stands_at ms (suc t)) ms)) (table_is ms t) ∙ go (stands_at ms (suc t))
   where

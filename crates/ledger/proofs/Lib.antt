@@ -12,4 +12,5 @@ pub mod Serials
 pub mod Histories
 pub mod Times
 pub mod Restarts
+pub mod Readers
 pub mod Whole

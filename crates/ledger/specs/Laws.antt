@@ -1,14 +1,14 @@
 -- The laws: what the calls mean for those who make them.
-use Rattle.std.specs.Prelude.{◌≡◌, ℕ, zero, suc, ◌+◌, ◌-◌, ◌<◌, ◌≤◌, Bool, true, false, if◌then◌else◌, not, ◌&&◌, List, [], ◌∷◌, ◌++◌, length, Some, None, filter, Option, ◌==◌, ◌≢◌, nat_lt}
+use Rattle.std.specs.Prelude.{◌≡◌, ℕ, zero, suc, ◌+◌, ◌-◌, ◌<◌, ◌≤◌, Bool, true, false, if◌then◌else◌, not, ◌&&◌, List, [], ◌∷◌, ◌++◌, map, length, drop, Some, None, filter, Option, ◌==◌, ◌≢◌, nat_lt}
 use Rattle.ledger.specs.declared.Call.{Call}
 use Rattle.ledger.specs.declared.Call.TheVariants.{Begin, Read, Write, Commit, Abort, Reclaim}
 use Rattle.ledger.specs.declared.Fault.{Fault}
 use Rattle.ledger.specs.declared.Fault.TheVariants.{NoTransaction, ClockSpent}
 use Rattle.ledger.specs.declared.Verdict.TheVariants.{Restart}
 use Rattle.ledger.specs.declared.Answer.{Answer}
-use Rattle.ledger.specs.declared.Answer.TheVariants.{Ended, Reclaimed, Refused}
+use Rattle.ledger.specs.declared.Answer.TheVariants.{Read as ReadDone, Ended, Reclaimed, Refused}
 use Rattle.ledger.specs.Ledger.{Limits, Transaction, Version, Ledger, found, is_reader, dead, newest_value}
-use Rattle.ledger.specs.Calls.{step, reclaimed, clash, out_of_ticks, is_some}
+use Rattle.ledger.specs.Calls.{step, keys_from, reclaimed, clash, out_of_ticks, is_some}
 use Rattle.ledger.specs.Reach.{Reached}
 use Rattle.ledger.specs.Orderly.{Orderly}
 use Rattle.ledger.specs.History.{Made, after, Told, accepted, acts, saw, began_at, committed_at, begins, ends, updater_in, placed, stands_at, others, asked}
@@ -119,6 +119,18 @@ down_from (suc n) = suc n ∷ down_from n
 -- the begins and the commits of a history draw the ticks 1, 2, .. up to the clock, each once
 abbrev pub TickLaw : Type 0
 TickLaw = (n : Limits) (ms : List Made) → Told n ms → drawn ms ≡ down_from (after n ms).clock
+
+-- One moment
+
+-- a read under a reader's handle, the newest call of the history
+abbrev pub read_now : ℕ → ℕ → ℕ → List ℕ → List ℕ → Made
+read_now h k c b b' = record { call = Read h k c; given = b; answer = ReadDone; left = b' }
+
+-- a reader is shown the serial table as it was when the reader began, whatever was committed since
+abbrev pub MomentLaw : Type 0
+MomentLaw = (n : Limits) (ms : List Made) (h k c : ℕ) (b b' : List ℕ)
+    → Told n (read_now h k c b b' ∷ ms) → updater_in h ms ≡ false
+    → b' ≡ map (table ms (h - 1)) (keys_from k c) ++ drop c b
 
 -- Over the ledgers that calls lead to
 

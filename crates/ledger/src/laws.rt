@@ -1,6 +1,6 @@
 //! The laws of the calls, each the contract of a function: it is proved, or the crate is not.
 ghost use Rattle.ledger.specs.Examples.{Examples};
-ghost use Rattle.ledger.specs.Laws.{Law, SerialLaw, TimeLaw, ReclaimLaw, RestartLaw, FullLaw, TickLaw, OrderLaw, DeathLaw, RefusalLaw, IdleLaw, PastLaw, VerdictLaw, StampLaw, BlindLaw};
+ghost use Rattle.ledger.specs.Laws.{Law, SerialLaw, TimeLaw, ReclaimLaw, RestartLaw, FullLaw, MomentLaw, TickLaw, OrderLaw, DeathLaw, RefusalLaw, IdleLaw, PastLaw, VerdictLaw, StampLaw, BlindLaw};
 
 /// The worked examples.
 pub fn examples_hold()
@@ -35,6 +35,11 @@ pub fn full_only_if_it_must_be()
 /// All of these at once, for the engine to cite.
 pub fn histories_are_lawful()
     ensures { Law }
+{}
+
+/// A report shows one moment: a reader reads the serial table as it was when the reader began.
+pub fn a_reader_sees_one_moment()
+    ensures { MomentLaw }
 {}
 
 /// Begins and commits draw the ticks from 1 to the clock, each once.

@@ -1,0 +1,25 @@
+-- What a list of the club shows: one moment of it.
+use Rattle.std.specs.Prelude.{◌≡◌, ℕ, ◌-◌, false, List, map}
+use Rattle.ledger.specs.Ledger.{Limits}
+use Rattle.ledger.specs.Calls.{keys_from}
+use Rattle.ledger.specs.History.{Made, after, updater_in}
+use Rattle.ledger.specs.Serial.{Table, table}
+use Rattle.versions.specs.Meaning.{Meaning as Store}
+use Rattle.validation.specs.Meaning.{Meaning as Stamps}
+use Rattle.engine.specs.declared.engine.Engine.{Engine}
+use Rattle.engine.specs.Serves.{Led}
+use Rattle.club.specs.declared.said.Said.{Said}
+use Rattle.club.specs.declared.said.Said.TheVariants.{Values}
+
+-- the club's values in a table, by rising key
+abbrev pub club_in : Table → List ℕ
+club_in v = map v (keys_from 0 8)
+
+-- the club as the transactions so far left it, whatever history led to the engine
+abbrev pub ShowsNow : {S V : Type 0} → (S → Store) → (V → Stamps) → Engine S V → Said → Type 0
+ShowsNow m p e s = (n : Limits) (ms : List Made) → Led m p n ms e → s ≡ Values (club_in (table ms (after n ms).clock))
+
+-- the club as it was when the report h was opened; h is no updater's
+abbrev pub ShowsOpening : {S V : Type 0} → (S → Store) → (V → Stamps) → Engine S V → ℕ → Said → Type 0
+ShowsOpening m p e h s = (n : Limits) (ms : List Made) → Led m p n ms e → updater_in h ms ≡ false
+    → s ≡ Values (club_in (table ms (h - 1)))
