@@ -1,5 +1,5 @@
 // Cells name each other by index, since the engine and what is below it have no heap: all memory is lent.
-// These are small functions over plain lent slices, as the project asks of the core; `ChainStore` keeps their facts as ghost fields.
+// Functions over lent slices and no methods of the store: while links are moved, its ghost fields do not hold.
 ghost use Rattle.std.specs.Prelude.{◌≡◌, ◌^◌, ◌<◌, true, map, length, replicate, Some, None, slice_index_or, slice_set};
 ghost use Rattle.versions.specs.Meaning.{as_of};
 ghost use Rattle.chain.specs.Links.{Ends, Once, list_from, inside, version_at, version_of, first_below, behind, ended_at, given_back, cell_at, filled, before, laid};
@@ -20,7 +20,7 @@ pub fn link_all(cells: &mut [Cell]) -> Link
             next: unused,
             ..Cell::CLEARED
         };
-        // `u16` has no `From<usize>`; the bound on the cells shows that it fits.
+        // The bound on the cells shows that it fits.
         unused = Some(i as u16);
     }
     unused

@@ -86,7 +86,7 @@ impl<'h, 'c> VersionStore for ChainStore<'h, 'c> {
 
     ghost lawful = { store_lawful };
 
-    // `u16` has no `From<usize>`: here and below the ghost fields show that the number fits.
+    // Here and below the ghost fields show that the number fits.
     fn keys(&self) -> u16 {
         self.heads.len() as u16
     }

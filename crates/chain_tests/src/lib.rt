@@ -3,7 +3,7 @@
 
 #[cfg(test)]
 mod tests {
-    use chain::cell::Cell;
+    use chain::cell::{Cell, Link};
     use chain::store::ChainStore;
     use std::process::Abort;
     use versions::fault::StoreFault;
@@ -91,6 +91,23 @@ mod tests {
         let mut chain = ChainStore::make(4, &mut heads, &mut cells);
         let mut log = LogStore::make(4, &mut versions);
         rounds(&rt, &mut chain, &mut log);
+    }
+
+    // Whether a store from a refused set-up has no keys, and every head and cell lent to it is cleared.
+    fn is_void(keys: u16, heads: &mut [Link], cells: &mut [Cell]) -> bool {
+        let left = ChainStore::make(keys, heads, cells).keys();
+        left == 0
+            && heads.iter().all(|head| head.is_none())
+            && cells.iter().all(|cell| cell.stamp == 0 && cell.value == 0 && cell.next.is_none())
+    }
+
+    #[test]
+    fn refused_set_ups_are_cleared(rt: HostRuntime) {
+        assert!(rt; is_void(0, &mut [Some(7); 4], &mut [CELL; 10]));
+        assert!(rt; is_void(1025, &mut [Some(7); 4], &mut [CELL; 10]));
+        assert!(rt; is_void(4, &mut [Some(7); 4], &mut []));
+        assert!(rt; is_void(4, &mut [Some(7); 4], &mut [CELL; 2049]));
+        assert!(rt; is_void(4, &mut [Some(7); 3], &mut [CELL; 10]));
     }
 
     #[test]

@@ -1,11 +1,15 @@
--- A loop that moves the records that stay to the front of a slice.
-use Rattle.std.proofs.Common.{◌≡◌, ℕ, ◌+◌, ◌<◌, ◌≤◌, Bool, true, false, cond, List, ◌∷◌, ◌++◌, length, get_or, take, drop, set, sym, refl, ◌∙◌, append_assoc, append-nil, arith}
-use Rattle.std.proofs.lemmas.List.{drop_more, drop_all, take_more_set, drop-set-lt, length-set}
-use Rattle.stamped.specs.Gaps.{closed}
+-- A loop that moves the records that stay to the front of a slice, and what it leaves.
+use Rattle.std.proofs.Common.{◌≡◌, ℕ, ◌+◌, ◌<◌, ◌≤◌, Bool, true, false, cond, List, [], ◌∷◌, ◌++◌, length, get_or, take, drop, set, sym, refl, ap, ◌∙◌, ⊎_elim, append_assoc, append-nil, length-append, length-drop, arith}
+use Rattle.std.proofs.lemmas.Bool.{cases_Bool}
+use Rattle.std.proofs.lemmas.List.{drop_more, drop_all, take_more_set, drop-set-lt, length-set, length-take-le, take-append-drop}
+use Rattle.std.proofs.Math.Seq.{drop-drop}
+use Rattle.stamped.specs.Gaps.{closed, closed_places}
+use Rattle.stamped.specs.Packing.{Packing, room, closed_packing}
 
--- ys began as xs: its first k, and what is left of it from i on once closed, are what is left of xs
+-- ys began as xs: its first k, and what is left of it from i on once closed, are what is left of xs; from k on it is still xs
 pub record Closing {X : Type 0} (drops : X → List X → Bool) (xs ys : List X) (k i : ℕ) : Type 0 where
   pub front : take k ys ++ closed drops (drop i ys) ≡ closed drops xs
+  pub back : drop k ys ≡ drop k xs
   pub behind : k ≤ i
   pub long : length ys ≡ length xs
 
@@ -14,18 +18,42 @@ module _ {X : Type 0} (drops : X → List X → Bool) (xs ys : List X) (k i : �
   step = rw (drop_more ys i x in', ← is) at inv.front
 
   pub closing_more_gone : drops x (drop (i + 1) ys) ≡ true → Closing drops xs ys k (i + 1)
-  closing_more_gone gone = record { front = rw gone at step; behind = omega arith; long = inv.long }
+  closing_more_gone gone = record { front = rw gone at step; back = inv.back; behind = omega arith; long = inv.long }
 
   pub closing_more_kept : drops x (drop (i + 1) ys) ≡ false → Closing drops xs (set ys k x) (k + 1) (i + 1)
   closing_more_kept kept =
       record {
         front = rw (take_more_set ys k x (omega arith), drop-set-lt (i + 1) ys k x (omega arith), append_assoc) (rw kept at step);
+        back = drop-set-lt (k + 1) ys k x (omega arith) ∙ sym (drop-drop 1 k ys) ∙ ap (drop 1) inv.back ∙ drop-drop 1 k xs;
         behind = omega arith;
         long = length-set ys k x ∙ inv.long;
       }
 
 pub closing_none : {X : Type 0} (drops : X → List X → Bool) (xs : List X) → Closing drops xs xs 0 0
-closing_none drops xs = record { front = refl; behind = omega arith; long = refl }
+closing_none drops xs = record { front = refl; back = refl; behind = omega arith; long = refl }
 
-pub closing_all : {X : Type 0} (drops : X → List X → Bool) (xs ys : List X) (k i : ℕ) → Closing drops xs ys k i → length ys ≤ i → take k ys ≡ closed drops xs
-closing_all drops xs ys k i inv end = sym (append-nil (take k ys)) ∙ rw (drop_all i ys end) at inv.front
+module _ {X : Type 0} (drops : X → List X → Bool) (xs ys : List X) (k i : ℕ) (inv : Closing drops xs ys k i) (end : length ys ≤ i) (in' : k ≤ length ys) where
+  kept : take k ys ≡ closed drops xs
+  kept = sym (append-nil (take k ys)) ∙ rw (drop_all i ys end) at inv.front
+
+  pub closing_count : k ≡ length (closed drops xs)
+  closing_count = sym (length-take-le k ys in') ∙ ap length kept
+
+  pub closing_places : ys ≡ closed_places drops xs
+  closing_places =
+      sym (take-append-drop k ys)
+      ∙ ap (λ (zs : List X). zs ++ drop k ys) kept
+      ∙ ap (λ (zs : List X). closed drops xs ++ zs) (inv.back ∙ ap (λ (n : ℕ). drop n xs) closing_count)
+
+-- no more records stay than there were
+pub length-closed : {X : Type 0} (drops : X → List X → Bool) (xs : List X) → length (closed drops xs) ≤ length xs
+length-closed drops [] = omega arith
+length-closed drops (x ∷ xs) =
+    let rest = length-closed drops xs in
+    ⊎_elim (λ (t : drops x xs ≡ true). rw t (omega arith)) (λ (t : drops x xs ≡ false). rw t (omega arith)) (cases_Bool (drops x xs))
+
+-- a closing of gaps keeps the places
+pub room-closed : {X : Type 0} (drops : X → List X → Bool) (p : Packing X) → room (closed_packing drops p) ≡ room p
+room-closed drops p =
+    let few = length-closed drops p.records in
+    simp (length-append, length-drop) (omega arith)

@@ -1,1 +1,2 @@
-mod Closings
+pub mod Closings
+pub mod LookUps

@@ -1,6 +1,6 @@
 -- A look-up in a list of records that carry a key and a stamp.
-use Rattle.std.specs.Prelude.{◌≡◌, ℕ, ◌+◌, ◌<◌, Bool, true, List, length, Some, None, Option, nat_lt}
-use Rattle.std.specs.List.{HoldsAt, AllWithin}
+use Rattle.std.specs.Prelude.{ℕ, suc, Bool, true, if◌then◌else◌, ◌&&◌, List, [], ◌∷◌, Some, None, Option, ◌==◌, nat_lt}
+use Rattle.std.specs.Option.{option_map, option_or}
 use Rattle.stamped.specs.declared.looking.Moment.{Moment}
 use Rattle.stamped.specs.declared.looking.Moment.TheVariants.{Now, Before}
 
@@ -9,11 +9,11 @@ abbrev pub counts : Moment → ℕ → Bool
 counts Now s = true
 counts (Before t) s = nat_lt s t
 
--- a record with this key, whose stamp counts at the moment
-abbrev pub Of : ℕ → Moment → ℕ → ℕ → Type 0
-Of key moment k s = (k ≡ key) × (counts moment s ≡ true)
+-- whether a record has this key, and a stamp that counts at the moment
+abbrev pub is_of : ℕ → Moment → ℕ → ℕ → Bool
+is_of key moment k s = k == key && counts moment s
 
--- the index of the last record that P holds of; none exactly if there is none
-abbrev pub Last : {X : Type 0} → (X → Type 0) → List X → Option ℕ → Type 0
-Last P xs None = AllWithin (λ x. P x → ⊥) xs 0 (length xs)
-Last P xs (Some i) = (i < length xs) × HoldsAt P xs i × AllWithin (λ x. P x → ⊥) xs (i + 1) (length xs)
+-- the last index at which p passes
+abbrev pub last_position : {X : Type 0} → (X → Bool) → List X → Option ℕ
+last_position p [] = None
+last_position p (x ∷ xs) = option_or (option_map suc (last_position p xs)) (if p x then Some 0 else None)

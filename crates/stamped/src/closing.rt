@@ -1,5 +1,5 @@
-ghost use Rattle.std.specs.Prelude.{◌≡◌, ◌≤◌, Bool, List, length, take};
-ghost use Rattle.stamped.specs.Gaps.{closed};
+ghost use Rattle.std.specs.Prelude.{◌≡◌, Bool, List, length};
+ghost use Rattle.stamped.specs.Gaps.{closed, closed_places};
 
 use crate::Stamped;
 
@@ -14,10 +14,9 @@ pub trait Drops<T: Stamped> {
 }
 
 /// Moves the records that stay to the front, in their order, and answers how many they are.
-/// Nothing is claimed of the places behind them.
 pub fn close_gaps<T: Stamped + Copy, R: Drops<T>>(records: &mut [T], rule: &R) -> usize
-    ensures few { result ≤ length records.old }
-    ensures kept { take result records.new ≡ closed (R.Drops.drops rule.now) records.old }
+    ensures count { result ≡ length (closed (R.Drops.drops rule.now) records.old) }
+    ensures places { records.new ≡ closed_places (R.Drops.drops rule.now) records.old }
 {
     let mut left = 0;
     // By index, since it writes to the slice that it reads.

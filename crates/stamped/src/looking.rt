@@ -1,5 +1,5 @@
 ghost use Rattle.std.specs.Prelude.{◌≡◌, Bool};
-ghost use Rattle.stamped.specs.Look.{counts, Of, Last};
+ghost use Rattle.stamped.specs.Look.{counts, is_of, last_position};
 
 use crate::Stamped;
 
@@ -25,8 +25,8 @@ impl Moment {
 
 /// The index of the last record of the key that counts at the moment, or none where no record is such.
 pub fn find_last<T: Stamped>(records: &[T], key: u16, moment: Moment) -> Option<usize>
-    ensures { Last (λ x. Of key moment (T.Stamped.key_of x) (T.Stamped.stamp_of x))
-        records.now result }
+    ensures { result ≡ last_position
+        (λ x. is_of key moment (T.Stamped.key_of x) (T.Stamped.stamp_of x)) records.now }
 {
     records.iter().rposition(|record| record.key() == key && moment.takes(record.stamp()))
 }

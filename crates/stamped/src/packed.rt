@@ -1,6 +1,6 @@
 ghost use Rattle.std.specs.Prelude.{◌≡◌, ◌+◌, ◌<◌, ◌≤◌, [], ◌∷◌, ◌++◌, length, take, drop, IsOk, OnOk, OnErr, IfErr, ◌↔◌};
-ghost use Rattle.stamped.specs.Gaps.{closed};
-ghost use Rattle.stamped.specs.Packing.{Packing, room};
+ghost use Rattle.stamped.specs.Gaps.{closed, closed_places};
+ghost use Rattle.stamped.specs.Packing.{Packing, closed_packing};
 
 use crate::Stamped;
 use crate::closing::{Drops, close_gaps};
@@ -66,10 +66,8 @@ impl<'a, T: Copy> Packed<'a, T> {
 
 impl<'a, T: Stamped + Copy> Packed<'a, T> {
     /// Lets go of the records that the rule drops; the others stay, in their order.
-    /// Nothing is claimed of the places behind them.
     pub fn close_gaps<R: Drops<T>>(&mut self, rule: &R)
-        ensures kept { self.new.records ≡ closed (R.Drops.drops rule.now) self.old.records }
-        ensures places { room self.new ≡ room self.old }
+        ensures { self.new ≡ closed_packing (R.Drops.drops rule.now) self.old }
     {
         self.used = close_front(self.places, self.used, rule);
     }
@@ -79,8 +77,9 @@ impl<'a, T: Stamped + Copy> Packed<'a, T> {
 /// Closes the gaps among so many records at the front, and answers how many they are then.
 fn close_front<T: Stamped + Copy, R: Drops<T>>(places: &mut [T], used: usize, rule: &R) -> usize
     requires { used ≤ length places.old }
-    ensures few { result ≤ used }
-    ensures kept { take result places.new ≡ closed (R.Drops.drops rule.now) (take used places.old) }
+    ensures count { result ≡ length (closed (R.Drops.drops rule.now) (take used places.old)) }
+    ensures places { places.new ≡
+        closed_places (R.Drops.drops rule.now) (take used places.old) ++ drop used places.old }
 {
     close_gaps(&mut places[..used], rule)
 }

@@ -1,12 +1,14 @@
 -- A list of entries in which a key stands at most once.
 use Rattle.std.proofs.Common.{◌≡◌, ℕ, zero, suc, ◌+◌, ◌<◌, ◌≤◌, Bool, true, false, cond, eqb, ltb, List, [], ◌∷◌, ◌++◌, length, get_or, Some, None, Option, sym, refl, ap, ◌∙◌, ⊎_elim, arith, Ok, Err, Result, drop, rules}
 use Rattle.std.proofs.lemmas.List.{length_push, length-append, length-drop}
-use Rattle.std.proofs.lemmas.Bool.{lt-ltb, le-ltb, ltb-true, eq-eqb, ne_eqb, eqb-true, cases_lt, cases_eq, cases_Bool}
+use Rattle.std.proofs.lemmas.Bool.{lt-ltb, le-ltb, ltb-true, eq-eqb, ne_eqb, eqb-true, and_parts, cases_lt, cases_eq, cases_Bool}
 use Rattle.stamped.specs.Gaps.{closed}
 use Rattle.std.specs.Option.{option_map, unwrap_or}
 use Rattle.std.specs.Result.{IsOk, OnOk}
-use Rattle.stamped.specs.Packing.{Packing, room as places_of}
-use Rattle.stamped.specs.Look.{Of, Last}
+use Rattle.stamped.specs.Packing.{Packing, room as places_of, closed_packing}
+use Rattle.stamped.specs.Look.{is_of, last_position}
+use Rattle.stamped.proofs.Closings.{room-closed}
+use Rattle.stamped.proofs.LookUps.{Last, last_at}
 use Rattle.stamped.specs.declared.looking.Moment.TheVariants.{Now}
 use Rattle.validation.specs.declared.entry.Entry.{Entry}
 use Rattle.validation.specs.Meaning.{latest, noted, trimmed}
@@ -264,32 +266,41 @@ looked_all keys es once start first full end (Some p) i l all =
     (omega (arith, l.held.1), omega (arith, l.held.2), stamp, l.held.4, λ k from upto. below keys es once start first full end (Some p) i l all k from (omega arith))
 
 -- an entry put behind what a closing has left: there is a place for it
-module _ (keys : ℕ) (es : List Entry) (left new : Packing Entry) (e : Entry) (once : Once keys es) (known : e.key < keys) (kept : left.records ≡ closed (of_key e.key) es) (places : places_of left ≡ keys) where
-  pushed : (r : Result (Unit {0}) Entry) → (0 < length left.rest → IsOk r) → OnOk r (new ≡ record { records = left.records ++ e ∷ []; rest = drop 1 left.rest }) → (places_of new ≡ keys) × (new.records ≡ closed (of_key e.key) es ++ e ∷ [])
-  pushed (Err f) fits new-is = absurd (let none = fits (omega (arith, places, ap length kept, room_noted keys es once e known)) in search rules)
+module _ (keys : ℕ) (old left new : Packing Entry) (e : Entry) (once : Once keys old.records) (known : e.key < keys) (places : places_of old ≡ keys) (left-is : left ≡ closed_packing (of_key e.key) old) where
+  some : 0 < length left.rest
+  some =
+      let all = room-closed (of_key e.key) old in
+      let few = room_noted keys old.records once e known in
+      rw left-is (omega (arith, places, all, few))
+
+  pushed : (r : Result (Unit {0}) Entry) → (0 < length left.rest → IsOk r) → OnOk r (new ≡ record { records = left.records ++ e ∷ []; rest = drop 1 left.rest }) → (places_of new ≡ keys) × (new.records ≡ closed (of_key e.key) old.records ++ e ∷ [])
+  pushed (Err f) fits new-is = absurd (let none = fits some in search rules)
   pushed (Ok u) fits new-is =
-      let some : 0 < length left.rest = omega (arith, places, ap length kept, room_noted keys es once e known) in
-      let long : length (left.records ++ e ∷ []) + length (drop 1 left.rest) ≡ keys = simp (length-append, length-drop) (omega (arith, some, places)) in
-      (rw new-is long, ap (λ (p : Packing Entry). p.records) new-is ∙ ap (λ (xs : List Entry). xs ++ e ∷ []) kept)
+      let whole : places_of left ≡ keys = rw left-is (room-closed (of_key e.key) old ∙ places) in
+      let long : length (left.records ++ e ∷ []) + length (drop 1 left.rest) ≡ keys = simp (length-append, length-drop) (omega (arith, some, whole)) in
+      (rw new-is long, ap (λ (p : Packing Entry). p.records) new-is ∙ ap (λ (p : Packing Entry). p.records ++ e ∷ []) left-is)
 
   module _ (r : Result (Unit {0}) Entry) (fits : 0 < length left.rest → IsOk r) (new-is : OnOk r (new ≡ record { records = left.records ++ e ∷ []; rest = drop 1 left.rest })) where
     pub noting_places : places_of new ≡ keys
     noting_places = (pushed r fits new-is).0
 
     pub noting_once : Once keys new.records
-    noting_once = rw (pushed r fits new-is).1 (once_noted keys es once e known)
+    noting_once = rw (pushed r fits new-is).1 (once_noted keys old.records once e known)
 
-    pub noting_meaning : stamp_in es e.key ≤ e.stamp → listed keys new.records ≡ noted (listed keys es) e.key e.stamp
-    noting_meaning fresh = rw (pushed r fits new-is).1 (list_noted keys es once e known fresh)
+    pub noting_meaning : stamp_in old.records e.key ≤ e.stamp → listed keys new.records ≡ noted (listed keys old.records) e.key e.stamp
+    noting_meaning fresh = rw (pushed r fits new-is).1 (list_noted keys old.records once e known fresh)
 
 -- what a look-up among the entries finds
 module _ (keys : ℕ) (es : List Entry) (once : Once keys es) (key : ℕ) where
-  found_some : (i : ℕ) → Last (λ e. Of key Now e.key e.stamp) es (Some i) → (get_or es i blank).stamp ≡ stamp_in es key
-  found_some i last = sym (stamp_at_place es i key blank last.0 (last.1 blank).0 (one_at_most keys es once key))
+  abbrev pub of : Entry → Bool
+  of e = is_of key Now e.key e.stamp
 
-  found_none : Last (λ e. Of key Now e.key e.stamp) es None → 0 ≡ stamp_in es key
-  found_none last = stamp_by (λ s. 0 ≡ s) es key refl (λ i in' is. absurd (last i blank (omega arith) in' (is, refl)))
+  found_last : (o : Option ℕ) (r : ℕ) → Last of es o → r ≡ unwrap_or (option_map (λ i. (get_or es i blank).stamp) o) 0 → r ≡ stamp_in es key
+  found_last (Some i) r last is =
+      let same = eqb-true (get_or es i blank).key key (and_parts (eqb (get_or es i blank).key key) true (last.1 blank)).0 in
+      is ∙ sym (stamp_at_place es i key blank last.0 same (one_at_most keys es once key))
+  found_last None r none is =
+      is ∙ stamp_by (λ s. 0 ≡ s) es key refl (λ i in' same. let y = eq-eqb (get_or es i blank).key key same in absurd (let z : true ≡ false = rw y at (none i blank (omega arith) in') in cc))
 
-  pub found_stamp : (o : Option ℕ) (r : ℕ) → Last (λ e. Of key Now e.key e.stamp) es o → r ≡ unwrap_or (option_map (λ i. (get_or es i blank).stamp) o) 0 → r ≡ stamp_in es key
-  found_stamp (Some i) r last is = is ∙ found_some i last
-  found_stamp None r last is = is ∙ found_none last
+  pub found_stamp : (o : Option ℕ) (r : ℕ) → o ≡ last_position of es → r ≡ unwrap_or (option_map (λ i. (get_or es i blank).stamp) o) 0 → r ≡ stamp_in es key
+  found_stamp o r found is = found_last o r (rw found (last_at of es)) is

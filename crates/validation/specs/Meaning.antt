@@ -1,5 +1,5 @@
 -- What a validator means, and what each call of it answers and leaves.
-use Rattle.std.specs.Prelude.{ℕ, zero, suc, ◌+◌, ◌<◌, ◌≤◌, max, if◌then◌else◌, Some, None, Ok, Err, Option, Result, ◌==◌, nat_le, nat_lt}
+use Rattle.std.specs.Prelude.{ℕ, zero, suc, ◌+◌, ◌≤◌, max, if◌then◌else◌, Some, None, Ok, Err, Option, Result, ◌==◌, nat_le, nat_lt}
 use Rattle.validation.specs.declared.fault.ValidatorFault.{ValidatorFault}
 use Rattle.validation.specs.declared.fault.ValidatorFault.TheVariants.{KeyOutside, StaleStamp}
 
@@ -54,7 +54,6 @@ greatest_below (suc n) f = max (greatest_below n f) (f n)
 abbrev pub latest : Meaning → ℕ
 latest m = greatest_below m.keys (stamp_at m)
 
--- what holds of every validator: keys within their limits, or none after a refused set-up; a granule for each key
-pub record Lawful (m : Meaning) : Type 0 where
-  pub few_keys : m.keys ≤ 1024
-  pub granules : (k : ℕ) → k < m.keys → m.granule k < m.keys
+-- what holds of every validator: keys within their limits, or none after a refused set-up
+abbrev pub Lawful : Meaning → Type 0
+Lawful m = m.keys ≤ 1024

@@ -1,5 +1,5 @@
 -- What a recent list shows, and that every one is lawful.
-use Rattle.std.specs.Prelude.{ℕ, ◌≤◌, List}
+use Rattle.std.specs.Prelude.{List}
 use Rattle.validation.specs.declared.entry.Entry.{Entry}
 use Rattle.validation.specs.declared.recent.RecentList.{RecentList}
 use Rattle.validation.specs.Meaning.{Meaning, Lawful}
@@ -17,4 +17,4 @@ abbrev pub list_meaning : RecentList → Meaning
 list_meaning l = listed l.keys (entries_of l)
 
 pub list_lawful : (l : RecentList) → Lawful (list_meaning l)
-list_lawful l = record { few_keys = l.few; granules = λ k inside. inside }
+list_lawful l = l.few

@@ -1,7 +1,5 @@
 -- What a stamp table shows, and that every one is lawful.
-use Rattle.std.specs.Prelude.{ℕ, ◌/◌, List}
-use Rattle.std.proofs.Common.{arith}
-use Rattle.std.proofs.Math.Nat.{div-le_self}
+use Rattle.std.specs.Prelude.{ℕ, List}
 use Rattle.validation.specs.declared.table.StampTable.{StampTable}
 use Rattle.validation.specs.Meaning.{Meaning, Lawful}
 use Rattle.validation.specs.Table.{tabled}
@@ -14,4 +12,4 @@ abbrev pub table_meaning : StampTable → Meaning
 table_meaning t = tabled t.keys t.grain (stamps_of t)
 
 pub table_lawful : (t : StampTable) → Lawful (table_meaning t)
-table_lawful t = record { few_keys = t.few; granules = λ k inside. omega (arith, inside, div-le_self k t.grain) }
+table_lawful t = t.few

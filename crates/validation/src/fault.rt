@@ -16,7 +16,6 @@ pub enum ValidatorFault {
     StaleStamp(u16),
 }
 
-// Methods of its own and no trait with the faults of version stores: neither crate knows the other, and no code takes any fault.
 impl ValidatorFault {
     /// Validators are the second layer.
     pub fn layer(&self) -> u8
@@ -42,7 +41,6 @@ impl ValidatorFault {
     {
         match *self {
             ValidatorFault::Keys(keys) => u64::from(keys),
-            // Rust has no `From<usize> for u64`, and a length cannot fail to fit.
             ValidatorFault::Places(places) => places as u64,
             ValidatorFault::Grain(grain) => u64::from(grain),
             ValidatorFault::KeyOutside(key) | ValidatorFault::StaleStamp(key) => u64::from(key),

@@ -128,14 +128,12 @@ impl<'a> Validator for RecentList<'a> {
         count: u16,
         start: u32,
     ) -> Result<Option<(u16, u32)>, ValidatorFault> {
-        // One comparison, with a fault of its own: a function for it would be no plainer.
         if u32::from(first) + u32::from(count) > u32::from(self.keys) {
             return Err(ValidatorFault::KeyOutside(first));
         }
         let mut lowest = None;
         // Once a key is hit, only those below it matter.
         let mut end = first + count;
-        // One plain loop over the entries, as the project asks of this search.
         for entry in self.entries.as_slice() {
             if entry.key >= first && entry.key < end && entry.stamp > start {
                 lowest = Some((entry.key, entry.stamp));

@@ -90,11 +90,9 @@ impl<'a> Validator for StampTable<'a> {
         count: u16,
         start: u32,
     ) -> Result<Option<(u16, u32)>, ValidatorFault> {
-        // One comparison, with a fault of its own: a function for it would be no plainer.
         if u32::from(first) + u32::from(count) > u32::from(self.keys) {
             return Err(ValidatorFault::KeyOutside(first));
         }
-        // One plain loop over the keys, as the project asks of this search.
         for key in first..first + count {
             let stamp = self.stamps[usize::from(key / self.grain)];
             if stamp > start {

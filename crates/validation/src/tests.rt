@@ -79,12 +79,34 @@ fn set_up_is_checked(rt: HostRuntime) {
     answered(&rt, RecentList::check(1025, 1025), Err((1, 1025)));
     answered(&rt, RecentList::check(10, 11), Err((3, 11)));
     answered(&rt, RecentList::check(10, 10), Ok(()));
-    let mut stamps = [0; 3];
-    let refused = StampTable::make(10, 3, &mut stamps);
-    assert_eq!(rt; refused.keys(), 0);
-    let mut entries = [Entry { key: 0, stamp: 0 }; 9];
-    let refused = RecentList::make(10, &mut entries);
-    assert_eq!(rt; refused.keys(), 0);
+}
+
+/// Whether a table from a refused set-up has no keys, and every place lent to it is cleared.
+fn table_is_void(keys: u16, grain: u16, stamps: &mut [u32]) -> bool {
+    let left = StampTable::make(keys, grain, stamps).keys();
+    left == 0 && stamps.iter().all(|stamp| *stamp == 0)
+}
+
+/// Whether a list from a refused set-up has no keys, and every place lent to it is cleared.
+fn list_is_void(keys: u16, entries: &mut [Entry]) -> bool {
+    let left = RecentList::make(keys, entries).keys();
+    left == 0
+        && entries
+            .iter()
+            .all(|entry| entry.key == 0 && entry.stamp == 0)
+}
+
+#[test]
+fn refused_set_ups_are_cleared(rt: HostRuntime) {
+    assert!(rt; table_is_void(0, 1, &mut [8; 3]));
+    assert!(rt; table_is_void(1025, 1, &mut [8; 3]));
+    assert!(rt; table_is_void(10, 0, &mut [8; 3]));
+    assert!(rt; table_is_void(10, 11, &mut [8; 3]));
+    assert!(rt; table_is_void(10, 3, &mut [8; 3]));
+    let noted = Entry { key: 8, stamp: 8 };
+    assert!(rt; list_is_void(0, &mut [noted; 3]));
+    assert!(rt; list_is_void(1025, &mut [noted; 3]));
+    assert!(rt; list_is_void(10, &mut [noted; 9]));
 }
 
 #[test]

@@ -1,5 +1,5 @@
 -- What a closing of gaps leaves of a log means what a prune leaves of each key.
-use Rattle.std.proofs.Common.{◌≡◌, ℕ, ◌-◌, ◌<◌, ◌≤◌, Bool, true, false, cond, ltb, List, [], ◌∷◌, ◌++◌, length, sym, refl, ap, ◌∙◌, ⊎_elim, append-nil, arith}
+use Rattle.std.proofs.Common.{◌≡◌, ℕ, ◌-◌, ◌<◌, Bool, true, false, cond, ltb, List, [], ◌∷◌, ◌++◌, length, sym, refl, ap, ◌∙◌, ⊎_elim, append-nil, arith}
 use mathlib.Core.Path.{fun_ext}
 use Rattle.std.specs.List.{AllByRecursion}
 use Rattle.std.proofs.lemmas.Bool.{eq-eqb, ne_eqb, cases_Bool, cases_eq}
@@ -69,15 +69,6 @@ all_closed P drops (x ∷ xs) a =
     (λ (t : drops x xs ≡ true). rw t (all_closed P drops xs a.1))
     (λ (t : drops x xs ≡ false). rw t (a.0, all_closed P drops xs a.1))
     (cases_Bool (drops x xs))
-
-pub closed_few : (h : ℕ) (log : List Version) → length (closed (superseded h) log) ≤ length log
-closed_few h [] = omega arith
-closed_few h (x ∷ xs) =
-    let rest = closed_few h xs in
-    ⊎_elim
-    (λ (t : superseded h x xs ≡ true). rw t (omega (arith, rest)))
-    (λ (t : superseded h x xs ≡ false). rw t (omega (arith, rest)))
-    (cases_Bool (superseded h x xs))
 
 module _ (h : ℕ) (log : List Version) (falling : Falling log) where
   pub closed_falling : Falling (closed (superseded h) log)

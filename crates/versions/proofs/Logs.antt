@@ -1,16 +1,17 @@
 -- A packed log: what it means, what a look-up in it finds, and one version more at its end.
-use Rattle.std.proofs.Common.{◌≡◌, ℕ, zero, suc, ◌+◌, ◌<◌, ◌≤◌, true, false, cond, eqb, List, [], ◌∷◌, ◌++◌, length, get_or, take, fold, Some, None, Ok, sym, refl, ap, ◌∙◌, ⊎_elim, append_assoc, append-nil, length-append, add-one, arith, ◌||◌, Result, Err, drop, length-drop, rules, ltb, Option}
+use Rattle.std.proofs.Common.{◌≡◌, ℕ, zero, suc, ◌+◌, ◌<◌, ◌≤◌, Bool, true, false, cond, eqb, List, [], ◌∷◌, ◌++◌, length, get_or, take, fold, Some, None, Ok, sym, refl, ap, ◌∙◌, ⊎_elim, append_assoc, append-nil, length-append, add-one, arith, ◌||◌, Result, Err, drop, length-drop, rules, ltb, Option}
 use mathlib.Core.Path.{fun_ext}
 use Rattle.std.specs.List.{AllByRecursion, AllWithin}
 use Rattle.std.specs.Result.{is_ok, IsOk, OnOk, OnErr}
 use Rattle.std.specs.Option.{option_map, unwrap_or}
 use Rattle.std.proofs.lemmas.List.Sums.{fold_more, fold_push}
 use Rattle.std.proofs.lemmas.List.Elements.{All-push}
-use Rattle.std.proofs.lemmas.Bool.{cases_lt, eq-eqb, ne_eqb, eqb-true, lt-leb, cases_Bool, cases_eq, or_parts, ltb-false}
+use Rattle.std.proofs.lemmas.Bool.{cases_lt, eq-eqb, ne_eqb, eqb-true, lt-leb, cases_Bool, cases_eq, and_parts, or_parts, ltb-false}
 use Rattle.std.proofs.ByRecursion.{all_from_every}
 use Rattle.std.proofs.lemmas.List.{take_all}
 use Rattle.stamped.specs.declared.looking.Moment.{Moment}
-use Rattle.stamped.specs.Look.{counts, Of, Last}
+use Rattle.stamped.specs.Look.{counts, is_of, last_position}
+use Rattle.stamped.proofs.LookUps.{Last, last_at}
 use Rattle.stamped.specs.Packing.{Packing, room}
 use Rattle.versions.specs.declared.store.Version.{Version}
 use Rattle.versions.specs.declared.fault.StoreFault.{StoreFault}
@@ -23,26 +24,23 @@ use Rattle.versions.proofs.Meanings.{falls_more, add_full, add_fine, added_refus
 -- what a look-up finds
 
 module _ (log : List Version) (k : ℕ) (moment : Moment) where
-  hit : (n : ℕ) → n < length log → Of k moment (get_or log n blank).key (get_or log n blank).stamp → first_by (counts moment) (versions_of (take (n + 1) log) k) ≡ ((get_or log n blank).stamp, (get_or log n blank).value)
-  hit n h of =
-      let y = eq-eqb (get_or log n blank).key k of.0 in
-      let c = of.1 in
-      ap (first_by (counts moment)) (fold_more (noted k) [] log n blank h) ∙ rw (y, c) refl
+  abbrev of : Version → Bool
+  of v = is_of k moment v.key v.stamp
 
-  miss : (n : ℕ) → n < length log → (Of k moment (get_or log n blank).key (get_or log n blank).stamp → ⊥) → first_by (counts moment) (versions_of (take (n + 1) log) k) ≡ first_by (counts moment) (versions_of (take n log) k)
-  miss n h no' =
+  hit : (n : ℕ) → n < length log → of (get_or log n blank) ≡ true → first_by (counts moment) (versions_of (take (n + 1) log) k) ≡ ((get_or log n blank).stamp, (get_or log n blank).value)
+  hit n h is =
+      let both = and_parts (eqb (get_or log n blank).key k) (counts moment (get_or log n blank).stamp) is in
+      ap (first_by (counts moment)) (fold_more (noted k) [] log n blank h) ∙ rw (both.0, both.1) refl
+
+  miss : (n : ℕ) → n < length log → of (get_or log n blank) ≡ false → first_by (counts moment) (versions_of (take (n + 1) log) k) ≡ first_by (counts moment) (versions_of (take n log) k)
+  miss n h is =
       ap (first_by (counts moment)) (fold_more (noted k) [] log n blank h)
       ∙ ⊎_elim
-      (λ (e : (get_or log n blank).key ≡ k).
-      let y = eq-eqb (get_or log n blank).key k e in
-      ⊎_elim
-      (λ (c : counts moment (get_or log n blank).stamp ≡ true). absurd (no' (e, c)))
-      (λ (c : counts moment (get_or log n blank).stamp ≡ false). rw (y, c) refl)
-      (cases_Bool (counts moment (get_or log n blank).stamp)))
-      (λ (e : (get_or log n blank).key ≡ k → ⊥). let y = ne_eqb (get_or log n blank).key k e in rw y refl)
-      (cases_eq (get_or log n blank).key k)
+      (λ (y : eqb (get_or log n blank).key k ≡ true). let late = rw y at is in rw (y, late) refl)
+      (λ (y : eqb (get_or log n blank).key k ≡ false). rw y refl)
+      (cases_Bool (eqb (get_or log n blank).key k))
 
-  passed : (i n : ℕ) → i ≤ n → n ≤ length log → AllWithin (λ v. Of k moment v.key v.stamp → ⊥) log i n → first_by (counts moment) (versions_of (take n log) k) ≡ first_by (counts moment) (versions_of (take i log) k)
+  passed : (i n : ℕ) → i ≤ n → n ≤ length log → AllWithin (λ v. of v ≡ false) log i n → first_by (counts moment) (versions_of (take n log) k) ≡ first_by (counts moment) (versions_of (take i log) k)
   passed i zero low high every = let z : 0 ≡ i = omega arith in ap (λ (m : ℕ). first_by (counts moment) (versions_of (take m log) k)) z
   passed i (suc n) low high every =
       ⊎_elim
@@ -57,21 +55,18 @@ module _ (log : List Version) (k : ℕ) (moment : Moment) where
   whole = ap (λ (l : List Version). first_by (counts moment) (versions_of l k)) (take_all (length log) log (omega arith))
 
   module _ (keys cells : ℕ) (known : k < keys) where
-    found_some : (i : ℕ) → Last (λ v. Of k moment v.key v.stamp) log (Some i) → Ok ((get_or log i blank).stamp, (get_or log i blank).value) ≡ moment_answer (logged keys cells log) k moment
-    found_some i l =
+    found_last : (o : Option ℕ) (r : ℕ × ℕ) → Last of log o → r ≡ unwrap_or (option_map (λ i. ((get_or log i blank).stamp, (get_or log i blank).value)) o) (0, 0) → Ok r ≡ moment_answer (logged keys cells log) k moment
+    found_last (Some i) r last is =
         let off = lt-leb keys k known in
-        let e = sym whole ∙ passed (i + 1) (length log) (omega arith) (omega arith) l.2 ∙ hit i l.0 (l.1 blank) in
+        let e = is ∙ sym (sym whole ∙ passed (i + 1) (length log) (omega arith) (omega arith) last.2 ∙ hit i last.0 (last.1 blank)) in
+        rw (off, e) refl
+    found_last None r none is =
+        let off = lt-leb keys k known in
+        let e = is ∙ sym (sym whole ∙ passed 0 (length log) (omega arith) (omega arith) none) in
         rw (off, e) refl
 
-    found_none : Last (λ v. Of k moment v.key v.stamp) log None → Ok (0, 0) ≡ moment_answer (logged keys cells log) k moment
-    found_none l =
-        let off = lt-leb keys k known in
-        let e = sym whole ∙ passed 0 (length log) (omega arith) (omega arith) l in
-        rw (off, e) refl
-
-    pub found_read : (o : Option ℕ) (r : ℕ × ℕ) → Last (λ v. Of k moment v.key v.stamp) log o → r ≡ unwrap_or (option_map (λ i. ((get_or log i blank).stamp, (get_or log i blank).value)) o) (0, 0) → Ok r ≡ moment_answer (logged keys cells log) k moment
-    found_read (Some i) r l is = rw is (found_some i l)
-    found_read None r l is = rw is (found_none l)
+    pub found_read : (o : Option ℕ) (r : ℕ × ℕ) → o ≡ last_position of log → r ≡ unwrap_or (option_map (λ i. ((get_or log i blank).stamp, (get_or log i blank).value)) o) (0, 0) → Ok r ≡ moment_answer (logged keys cells log) k moment
+    found_read o r found is = found_last o r (rw found (last_at of log)) is
 
 -- the first record of a log is the oldest version of its key
 

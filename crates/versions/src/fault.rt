@@ -18,7 +18,6 @@ pub enum StoreFault {
     StaleStamp(u16),
 }
 
-// Methods of its own and no trait with the faults of validators: neither crate knows the other, and no code takes any fault.
 impl StoreFault {
     /// Version stores are the first layer.
     pub fn layer(&self) -> u8
@@ -44,7 +43,6 @@ impl StoreFault {
     {
         match *self {
             StoreFault::Keys(keys) => u64::from(keys),
-            // Rust has no `From<usize> for u64`, and a length cannot fail to fit.
             StoreFault::Cells(length) | StoreFault::Heads(length) => length as u64,
             StoreFault::KeyOutside(key) | StoreFault::Full(key) | StoreFault::StaleStamp(key) =>
                 u64::from(key),

@@ -107,7 +107,7 @@ impl<'a> VersionStore for LogStore<'a> {
         let used = self.versions.as_slice().len();
         self.versions.close_gaps(&Superseded { horizon });
         let left = self.versions.as_slice().len();
-        // `u16` has no `From<usize>`: here and below the ghost fields show that the number fits.
+        // Here and below the ghost fields show that the number fits.
         (used - left) as u16
     }
 
@@ -177,8 +177,7 @@ mod tests {
     }
 
     // A store from a refused set-up has no keys and no cells, and answers every call.
-    fn is_void(keys: u16, cells: &mut [Version]) -> bool {
-        let mut store = LogStore::make(keys, cells);
+    fn answers_as_void(mut store: LogStore<'_>) -> bool {
         let refuses = store.newest(0) == Err(StoreFault::KeyOutside(0))
             && store.as_of(0, 1) == Err(StoreFault::KeyOutside(0))
             && store.add(0, 1, 1) == Err(StoreFault::KeyOutside(0));
@@ -189,10 +188,18 @@ mod tests {
             && store.prune(9) == 0
     }
 
+    // Every cell that was lent to it is cleared all the same.
+    fn is_void(keys: u16, cells: &mut [Version]) -> bool {
+        answers_as_void(LogStore::make(keys, cells))
+            && cells
+                .iter()
+                .all(|cell| cell.key == 0 && cell.stamp == 0 && cell.value == 0)
+    }
+
     #[test]
     fn refused_set_ups_make_void_stores(rt: HostRuntime) {
-        assert!(rt; is_void(0, &mut [BLANK; 1]));
-        assert!(rt; is_void(1025, &mut [BLANK; 1]));
+        assert!(rt; is_void(0, &mut [BLANK; 2]));
+        assert!(rt; is_void(1025, &mut [BLANK; 2]));
         assert!(rt; is_void(1, &mut []));
         assert!(rt; is_void(1, &mut [BLANK; 2049]));
     }

@@ -1,6 +1,6 @@
 use Rattle.std.proofs.Common.{◌≡◌, ◌+◌, ◌-◌, Bool, length, take, drop, sym, ap, ◌∙◌, arith}
 use Rattle.std.proofs.lemmas.List.{take_rest}
-use Rattle.stamped.proofs.Closings.{closing_none, closing_more_gone, closing_more_kept, closing_all}
+use Rattle.stamped.proofs.Closings.{closing_none, closing_more_gone, closing_more_kept, closing_count, closing_places}
 use Rattle.stamped.proofs.closing.close_gaps.Goals as goal
 use Rattle.stamped.proofs.closing.close_gaps.Goals.{then-not-drops, else-not-drops}
 
@@ -22,6 +22,6 @@ loop-i-preserved g c =
 pub returns : goal.returns
 returns g c =
     record {
-      few = omega arith;
-      kept = closing_all (g.R.Drops.drops c.args.rule.now) c.args.records.now c.loop-i.records c.loop-i.left c.loop-i.i c.loop-i.invariant (omega arith);
+      count = closing_count (g.R.Drops.drops c.args.rule.now) c.args.records.now c.loop-i.records c.loop-i.left c.loop-i.i c.loop-i.invariant (omega arith) (omega arith);
+      places = closing_places (g.R.Drops.drops c.args.rule.now) c.args.records.now c.loop-i.records c.loop-i.left c.loop-i.i c.loop-i.invariant (omega arith) (omega arith);
     }

@@ -1,8 +1,18 @@
-use Rattle.std.proofs.Common.{rules, ◌≡◌, get_or}
+use Rattle.std.proofs.Common.{rules, ◌≡◌, ◌<◌, length, get_or, sym, ◌∙◌}
+use Rattle.std.proofs.iter.Serving.{serving}
 use Rattle.std.specs.Option.{option_map, unwrap_or}
+use Rattle.stamped.specs.Look.{is_of}
+use Rattle.stamped.specs.declared.looking.Moment.TheVariants.{Now}
+use Rattle.stamped.proofs.LookUps.{last_inside}
+use Rattle.validation.specs.declared.entry.Entry.{Entry}
 use Rattle.validation.specs.Recent.{Once, blank}
 use Rattle.validation.proofs.Recents.{found_stamp}
 use Rattle.validation.proofs.recent.RecentList.stamp_of.Goals as goal
+
+pub map_or-requires : goal.map_or-requires
+map_or-requires c i is =
+    let low : i < length c.as_slice-entries.result.now = last_inside (λ (e : Entry). is_of c.args.key Now e.key e.stamp) c.as_slice-entries.result.now i (sym c.find_last.ensures ∙ is) in
+    grind serving
 
 pub returns : goal.returns
 returns c =

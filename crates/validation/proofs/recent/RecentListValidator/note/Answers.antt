@@ -1,4 +1,4 @@
-use Rattle.std.proofs.Common.{◌∙◌, arith}
+use Rattle.std.proofs.Common.{arith}
 use Rattle.validation.specs.declared.entry.Entry.{Entry}
 use Rattle.validation.specs.Recent.{listed}
 use Rattle.validation.proofs.Answering.{granule_known}
@@ -10,11 +10,10 @@ invariant_of-self c =
     let s = c.args.self.now in
     let e : Entry = record { key = c.args.key; stamp = c.args.stamp } in
     let known = (granule_known (listed s.keys s.entries.records) c.args.key _ c.in_ok-granule.ensures).0 in
-    let places = c.close_gaps.ensures.places ∙ s.places in
     record {
       few = s.few;
-      places = noting_places s.keys s.entries.records c.close_gaps.new.self c.push.new.self e s.once known c.close_gaps.ensures.kept places c.push.result c.push.ensures.fits.1 c.push.ensures.pushed;
-      once = noting_once s.keys s.entries.records c.close_gaps.new.self c.push.new.self e s.once known c.close_gaps.ensures.kept places c.push.result c.push.ensures.fits.1 c.push.ensures.pushed;
+      places = noting_places s.keys s.entries c.close_gaps.new.self c.push.new.self e s.once known s.places c.close_gaps.ensures c.push.result c.push.ensures.fits.1 c.push.ensures.pushed;
+      once = noting_once s.keys s.entries c.close_gaps.new.self c.push.new.self e s.once known s.places c.close_gaps.ensures c.push.result c.push.ensures.fits.1 c.push.ensures.pushed;
     }
 
 pub returns-clause-after : goal.returns-clause-after
@@ -22,5 +21,4 @@ returns-clause-after c =
     let s = c.args.self.now in
     let e : Entry = record { key = c.args.key; stamp = c.args.stamp } in
     let known = (granule_known (listed s.keys s.entries.records) c.args.key _ c.in_ok-granule.ensures).0 in
-    let places = c.close_gaps.ensures.places ∙ s.places in
-    noting_meaning s.keys s.entries.records c.close_gaps.new.self c.push.new.self e s.once known c.close_gaps.ensures.kept places c.push.result c.push.ensures.fits.1 c.push.ensures.pushed (omega (arith, c.stamp_of.ensures))
+    noting_meaning s.keys s.entries c.close_gaps.new.self c.push.new.self e s.once known s.places c.close_gaps.ensures c.push.result c.push.ensures.fits.1 c.push.ensures.pushed (omega (arith, c.stamp_of.ensures))

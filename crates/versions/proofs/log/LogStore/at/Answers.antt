@@ -1,9 +1,18 @@
-use Rattle.std.proofs.Common.{rules, ◌≡◌, get_or}
+use Rattle.std.proofs.Common.{rules, ◌≡◌, ◌<◌, length, get_or, sym, ◌∙◌}
+use Rattle.std.proofs.iter.Serving.{serving}
 use Rattle.std.specs.Option.{option_map, unwrap_or}
 use Rattle.stamped.specs.Packing.{room}
+use Rattle.stamped.specs.Look.{is_of}
+use Rattle.stamped.proofs.LookUps.{last_inside}
+use Rattle.versions.specs.declared.store.Version.{Version}
 use Rattle.versions.specs.Log.{blank}
 use Rattle.versions.proofs.Logs.{found_read}
 use Rattle.versions.proofs.log.LogStore.at.Goals as goal
+
+pub map_or-requires : goal.map_or-requires
+map_or-requires c i is =
+    let low : i < length c.as_slice-log.result.now = last_inside (λ (v : Version). is_of c.args.key c.args.moment v.key v.stamp) c.as_slice-log.result.now i (sym c.find_last-found.ensures ∙ is) in
+    grind serving
 
 pub returns : goal.returns
 returns c =
