@@ -1,5 +1,5 @@
 -- Commit: the verdict and what it leaves are the ledger's.
-use Rattle.std.proofs.Common.{◌≡◌, ℕ, ◌+◌, ◌<◌, ◌≤◌, Bool, true, false, cond, ltb, List, length, set, Some, None, sym, refl, ap, ◌∙◌, subst, arith}
+use Rattle.std.proofs.Common.{◌≡◌, ℕ, ◌+◌, ◌<◌, ◌≤◌, Bool, true, false, cond, ltb, List, length, get_or, position, set, Some, None, sym, refl, ap, ◌∙◌, subst, arith}
 use Rattle.std.specs.List.{AllByRecursion}
 use Rattle.std.proofs.lemmas.Bool.{ltb-true, ltb-false, lt-ltb, le-ltb, le-leb, lt-leb, cond-true, cond-false}
 use Rattle.ledger.specs.declared.Write.{Write as Entry}
@@ -18,16 +18,16 @@ use Rattle.versions.specs.Meaning.{Meaning as Store, free as room}
 use Rattle.validation.specs.Meaning.{Meaning as Stamps}
 use Rattle.transaction_table.specs.declared.record.Record.{Record}
 use Rattle.transaction_table.specs.declared.table.Table.{Table}
-use Rattle.transaction_table.specs.View.{active_of, view, taken}
-use Rattle.transaction_table.specs.Places.{Here}
+use Rattle.transaction_table.specs.View.{active_of, view}
+use Rattle.transaction_table.proofs.Slots.{Here}
+use Rattle.transaction_table.specs.Places.{has_handle, freed, released}
 use Rattle.transaction_table.specs.Shuffle.{Shuffle}
 use Rattle.engine.specs.Fits.{Fits, limits_of}
 use Rattle.engine.specs.Endings.{first_named, all_added, all_noted}
 use Rattle.engine.specs.Verdicts.{with_room, Judged}
 use Rattle.engine.specs.Serves.{Steps}
-use Rattle.transaction_table.proofs.Shuffles.{shuffle_kept}
-use Rattle.transaction_table.proofs.Slots.{slots_free}
-use Rattle.engine.proofs.Fittings.{last_is, limits_are, busy, places_apart, found_here}
+use Rattle.transaction_table.proofs.Searches.{first_changed-set}
+use Rattle.engine.proofs.Fittings.{last_is, limits_are, busy, freed_active, found_here}
 use Rattle.engine.proofs.Installs.{adds, notes, holds_installed}
 use Rattle.engine.proofs.Validations.{clash_named, full_judged}
 use Rattle.engine.proofs.Reclaimings.{room_is}
@@ -158,23 +158,21 @@ module _ {l : Ledger} {t₀ : Table} {s₀ : Store} {v₀ : Stamps} (f₀ : Fits
 
 -- The record is freed
 
-module _ {l : Ledger} {t : Table} {s : Store} {v : Stamps} (f : Fits l t s v) (h i : ℕ) (at : Here t.records h i) (left : Record) (off : taken left.state ≡ false) where
-  freed_active : Shuffle (without l.active h) (active_of (set t.records i left))
-  freed_active = subst (Shuffle (without l.active h)) (sym (slots_free t.records i h at.at left at.reads at.is_taken at.has off (places_apart f))) (shuffle_kept _ f.active)
-
-  pub commit_judged : (b : List ℕ) (x : Verdict) (t' : Table) (s' : Store) (v' : Stamps) → Judged (step l (Commit h) b) b (without l.active h) x t t' s' v' → Steps l (Commit h) b (Ended x) b (record { clock = t'.clock; last = t'.last; records = set t'.records i left }) s' v'
-  commit_judged b x t' s' v' j = record {
-    answer = j.answer;
-    buffer = j.buffer;
-    after = record {
-      reached = next (Commit h) b f.reached;
-      ticks = subst (λ z. z ≤ 4294967294) (sym j.last) f.ticks;
-      limits = j.limits;
-      clock = j.clock;
-      active = subst (λ ts. Shuffle ts (active_of (set t'.records i left))) (sym j.active) (subst (λ rs. Shuffle (without l.active h) (active_of (set rs i left))) (sym j.records) freed_active);
-      holds = λ _. j.holds;
-    };
-  }
+pub commit_judged : {l : Ledger} {t : Table} {s : Store} {v : Stamps} (f : Fits l t s v) (h i : ℕ) (d : Record) → Some i ≡ position (has_handle h) t.records → (b : List ℕ) (x : Verdict) (t' : Table) (s' : Store) (v' : Stamps) → Judged (step l (Commit h) b) b (without l.active h) x t t' s' v' → Steps l (Commit h) b (Ended x) b (record { clock = t'.clock; last = t'.last; records = set t'.records i (freed (get_or t'.records i d)) }) s' v'
+commit_judged {l = l} {t = t} f h i d e b x t' s' v' j =
+    let is : set t'.records i (freed (get_or t'.records i d)) ≡ (released h t).records = ap (λ rs. set rs i (freed (get_or rs i d))) j.records ∙ sym (first_changed-set (has_handle h) freed t.records i d e) in
+    record {
+      answer = j.answer;
+      buffer = j.buffer;
+      after = record {
+        reached = next (Commit h) b f.reached;
+        ticks = subst (λ z. z ≤ 4294967294) (sym j.last) f.ticks;
+        limits = j.limits;
+        clock = j.clock;
+        active = subst (λ ts. Shuffle ts (active_of (set t'.records i (freed (get_or t'.records i d))))) (sym j.active) (subst (λ rs. Shuffle (without l.active h) (active_of rs)) (sym is) (freed_active f h));
+        holds = λ _. j.holds;
+      };
+    }
 
 module _ {l : Ledger} {t : Table} {s : Store} {v : Stamps} (f : Fits l t s v) (h i : ℕ) (at : Here t.records h i) (b : List ℕ) where
   -- a reader's commit is judged without any doing

@@ -6,7 +6,7 @@ use Rattle.ledger.specs.declared.Fault.{Fault}
 use Rattle.ledger.specs.declared.Answer.{Answer}
 use Rattle.ledger.specs.declared.Answer.TheVariants.{Refused}
 use Rattle.ledger.specs.Ledger.{Transaction, Ledger, found, is_reader, horizon, value_below, newest_value, own_write, no_limits}
-use Rattle.ledger.specs.Calls.{Outcome, step, refused, seen}
+use Rattle.ledger.specs.Calls.{Outcome, step, refused, seen, without}
 use Rattle.ledger.specs.Reach.{Reached, next}
 use Rattle.ledger.specs.Orderly.{Apart}
 use Rattle.ledger.proofs.Actives.{all_found, least_each}
@@ -15,13 +15,13 @@ use Rattle.versions.specs.Meaning.{Meaning as Store, as_of, newest}
 use Rattle.validation.specs.Meaning.{Meaning as Stamps}
 use Rattle.transaction_table.specs.declared.table.Table.{Table}
 use Rattle.transaction_table.specs.View.{active_of, view}
-use Rattle.transaction_table.specs.Places.{Here}
+use Rattle.transaction_table.specs.Places.{released}
 use Rattle.transaction_table.specs.Shuffle.{Shuffle}
 use Rattle.engine.specs.Shows.{shown}
 use Rattle.engine.specs.Fits.{Fits, Holds, limits_of, chain_of}
 use Rattle.engine.specs.Serves.{Steps}
-use Rattle.transaction_table.proofs.Shuffles.{shuffle_apart, shuffle_found}
-use Rattle.transaction_table.proofs.Slots.{slots_found}
+use Rattle.transaction_table.proofs.Shuffles.{shuffle_apart, shuffle_found, shuffle_kept}
+use Rattle.transaction_table.proofs.Slots.{Here, slots_found, active_freed}
 use Rattle.engine.proofs.Chains.{chain_below, chain_newest}
 
 -- only the clock and the active transactions change
@@ -66,11 +66,13 @@ module _ {l : Ledger} {t : Table} {s : Store} {v : Stamps} (f : Fits l t s v) wh
       either true q now = q refl
       either false q now = ap (unwrap_or (own_write k u.writes)) now
 
-  -- a refusal leaves the ledger, and of the table what it stands for
-  pub keeps_refused : (c : Call) (b : List ℕ) (x : Fault) (t' : Table) → step l c b ≡ refused l b x → t.clock ≡ t'.clock → t.last ≡ t'.last → Shuffle l.active (active_of t'.records) → Steps l c b (Refused x) b t' s v
-  keeps_refused c b x t' e ticks last_same acts =
-      let after : Fits l t' s v = record { reached = f.reached; ticks = subst (λ z. z ≤ 4294967294) last_same f.ticks; clock = f.clock ∙ ticks; limits = f.limits ∙ ap (λ z. limits_of z s v) last_same; active = acts; holds = λ p. f.holds (subst (λ z. 0 < z) (sym last_same) p) } in
-      record { answer = ap (λ o. o.answer) (sym e); buffer = ap (λ o. o.buffer) (sym e); after = subst (λ (o : Outcome). Fits o.ledger t' s v) (sym e) after }
+  -- without the transaction the ledger's and the table's are still the same
+  pub freed_active : (h : ℕ) → Shuffle (without l.active h) (active_of (released h t).records)
+  freed_active h = subst (Shuffle (without l.active h)) (sym (active_freed t.records h places_apart)) (shuffle_kept _ f.active)
+
+  -- a refusal leaves ledger and engine
+  pub keeps_refused : (c : Call) (b : List ℕ) (x : Fault) → step l c b ≡ refused l b x → Steps l c b (Refused x) b t s v
+  keeps_refused c b x e = record { answer = ap (λ o. o.answer) (sym e); buffer = ap (λ o. o.buffer) (sym e); after = subst (λ (o : Outcome). Fits o.ledger t s v) (sym e) f }
 
   pub keeps_moved : (c : Call) (b b' : List ℕ) (a : Answer) (n : ℕ) (ts : List Transaction) (t' : Table) → step l c b ≡ record { answer = a; buffer = b'; ledger = moved l n ts } → n ≡ t'.clock → t.last ≡ t'.last → Shuffle ts (active_of t'.records) → Steps l c b a b' t' s v
   keeps_moved c b b' a n ts t' e ticks last_same acts =

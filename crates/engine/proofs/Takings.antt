@@ -1,10 +1,10 @@
 -- What begin, read, write and abort do is the ledger's step.
-use Rattle.std.proofs.Common.{◌≡◌, ℕ, ◌+◌, ◌<◌, ◌≤◌, Bool, true, false, cond, not, ◌&&◌, ltb, leb, List, ◌∷◌, ◌++◌, map, length, get_or, drop, set, Some, None, Ok, Err, Result, sym, refl, ap, ◌∙◌, subst, arith}
+use Rattle.std.proofs.Common.{◌≡◌, ℕ, ◌+◌, ◌<◌, ◌≤◌, Bool, true, false, cond, not, ◌&&◌, ltb, leb, List, ◌∷◌, ◌++◌, map, length, get_or, drop, position, set, Option, Some, None, Ok, Err, Result, sym, refl, ap, ◌∙◌, subst, arith}
 use Rattle.std.specs.List.{AllByRecursion}
 use Rattle.std.proofs.ByRecursion.{All-weaker}
-use Rattle.std.specs.Result.{IsErrAnd}
+use Rattle.std.specs.Result.{OnOk, OnErr}
 use Rattle.std.proofs.lemmas.Bool.{leb-true, ltb-false}
-use Rattle.std.proofs.lemmas.Result.{err_from_is_err_and}
+use Rattle.std.proofs.lemmas.List.{set-get_or}
 use Rattle.ledger.specs.declared.Kind.{Kind}
 use Rattle.ledger.specs.declared.Call.{Call}
 use Rattle.ledger.specs.declared.Call.TheVariants.{Begin, Read, Write, Abort}
@@ -13,22 +13,22 @@ use Rattle.ledger.specs.declared.Fault.TheVariants.{KeyOutside, ShortBuffer, NoT
 use Rattle.ledger.specs.declared.Answer.{Answer}
 use Rattle.ledger.specs.declared.Answer.TheVariants.{Began, Read as ReadDone, Wrote, Aborted, Refused}
 use Rattle.ledger.specs.Ledger.{Transaction, Ledger, found, is_reader, any}
-use Rattle.ledger.specs.Calls.{Outcome, step, refused, with_active, without, changed, fresh, keys_from, seen, joined, wrote, no_room, same_range}
+use Rattle.ledger.specs.Calls.{Outcome, is_some, step, refused, with_active, without, changed, fresh, keys_from, seen, joined, wrote, no_room, same_range}
 use Rattle.versions.specs.Meaning.{Meaning as Store}
 use Rattle.validation.specs.Meaning.{Meaning as Stamps}
 use Rattle.transaction_table.specs.declared.record.Record.{Record}
 use Rattle.transaction_table.specs.declared.table.Table.{Table}
 use Rattle.transaction_table.specs.View.{active_of, view, taken}
-use Rattle.transaction_table.specs.Notes.{admits, join_answer, first_refusal, noted_on, on_ok}
-use Rattle.transaction_table.specs.Places.{Here, Released, begin_answer, begun_active}
+use Rattle.transaction_table.specs.Notes.{admits, join_answer, first_refusal, noted_on}
+use Rattle.transaction_table.specs.Places.{has_handle, begin_answer, begun, begun_active, release_answer, released}
 use Rattle.engine.specs.Shows.{shown}
 use Rattle.transaction_table.specs.Shuffle.{Shuffle, keep, join}
 use Rattle.engine.specs.Fits.{Fits}
 use Rattle.engine.specs.Serves.{Steps, told}
-use Rattle.transaction_table.proofs.Shuffles.{shuffle_length, shuffle_kept, shuffle_map}
-use Rattle.transaction_table.proofs.Slots.{here_at, slots_free, slots_put, slots_same}
+use Rattle.transaction_table.proofs.Shuffles.{shuffle_length, shuffle_map}
+use Rattle.transaction_table.proofs.Slots.{Here, here_from, found_none, slots_put}
 use Rattle.engine.proofs.Fills.{shown_joined, map_all, keys_below}
-use Rattle.engine.proofs.Fittings.{last_is, limits_are, busy, places_apart, found_same, found_here, shown_seen, keeps_refused, keeps_moved}
+use Rattle.engine.proofs.Fittings.{last_is, limits_are, busy, places_apart, found_same, found_here, shown_seen, freed_active, keeps_refused, keeps_moved}
 
 -- the ledger's outcome of a call that a record admits or refuses
 abbrev outcome : Ledger → List ℕ → Answer → List ℕ → List Transaction → Result (Unit {0}) Fault → Outcome
@@ -70,11 +70,15 @@ admitted_read keys room u h k n e = go (leb (k + n) keys) (ltb room n) refl refl
 abbrev pub with_record : Table → ℕ → Record → Table
 with_record t i r = record { clock = t.clock; last = t.last; records = set t.records i r }
 
+-- a record that is as it was
+pub kept_record : (t : Table) (i : ℕ) (d r : Record) → r ≡ get_or t.records i d → with_record t i r ≡ t
+kept_record t i d r e = ap (λ (rs : List Record). record { clock = t.clock; last = t.last; records = rs }) (ap (set t.records i) e ∙ set-get_or t.records i d)
+
 module _ {l : Ledger} {t : Table} {s : Store} {v : Stamps} (f : Fits l t s v) where
   -- Begin
 
-  pub begin_steps : (kind : Kind) (b : List ℕ) (r : Result ℕ Fault) (t' : Table) → r ≡ begin_answer t → t'.clock ≡ on_ok r (t.clock + 1) t.clock → t'.last ≡ t.last → Shuffle (begun_active r kind t.records) (active_of t'.records) → Steps l (Begin kind) b (told Began r) b t' s v
-  begin_steps kind b r t' e ticks same acts = go (leb 16 (length (active_of t.records))) (leb t.last t.clock) r refl refl e ticks acts
+  pub begin_steps : (kind : Kind) (b : List ℕ) (r : Result ℕ Fault) (t' : Table) → r ≡ begin_answer t → OnOk r (t' ≡ begun kind t) → OnErr r (t' ≡ t) → Shuffle (begun_active r kind t.records) (active_of t'.records) → Steps l (Begin kind) b (told Began r) b t' s v
+  begin_steps kind b r t' e moves stays acts = go (leb 16 (length (active_of t.records))) (leb t.last t.clock) r refl refl e moves stays acts
     where
       many : leb 16 (length l.active) ≡ leb 16 (length (active_of t.records))
       many = ap (leb 16) (shuffle_length f.active)
@@ -82,39 +86,41 @@ module _ {l : Ledger} {t : Table} {s : Store} {v : Stamps} (f : Fits l t s v) wh
       late : leb l.limits.last l.clock ≡ leb t.last t.clock
       late = ap (λ z. leb z l.clock) (last_is f) ∙ ap (leb t.last) f.clock
 
-      go : (full spent : Bool) (r : Result ℕ Fault) → leb 16 (length (active_of t.records)) ≡ full → leb t.last t.clock ≡ spent → r ≡ cond full (Err TooManyActive) (cond spent (Err (ClockSpent t.last)) (Ok (t.clock + 1))) → t'.clock ≡ on_ok r (t.clock + 1) t.clock → Shuffle (begun_active r kind t.records) (active_of t'.records) → Steps l (Begin kind) b (told Began r) b t' s v
-      go true spent r d g e ticks acts =
-          rw e (keeps_refused f (Begin kind) b TooManyActive t' (rw (many ∙ d)) (sym (subst (λ r. t'.clock ≡ on_ok r (t.clock + 1) t.clock) e ticks)) (sym same) (join f.active (subst (λ r. Shuffle (begun_active r kind t.records) (active_of t'.records)) e acts)))
-      go false true r d g e ticks acts =
-          rw (e, ← last_is f) (keeps_refused f (Begin kind) b (ClockSpent l.limits.last) t' (rw (many ∙ d, late ∙ g)) (sym (subst (λ r. t'.clock ≡ on_ok r (t.clock + 1) t.clock) e ticks)) (sym same) (join f.active (subst (λ r. Shuffle (begun_active r kind t.records) (active_of t'.records)) e acts)))
-      go false false r d g e ticks acts =
-          rw (e, ← f.clock) (keeps_moved f (Begin kind) b b (Began (l.clock + 1)) (l.clock + 1) (fresh (l.clock + 1) kind ∷ l.active) t' (rw (many ∙ d, late ∙ g)) (ap (λ n. n + 1) f.clock ∙ sym (subst (λ r. t'.clock ≡ on_ok r (t.clock + 1) t.clock) e ticks)) (sym same)
+      go : (full spent : Bool) (r : Result ℕ Fault) → leb 16 (length (active_of t.records)) ≡ full → leb t.last t.clock ≡ spent → r ≡ cond full (Err TooManyActive) (cond spent (Err (ClockSpent t.last)) (Ok (t.clock + 1))) → OnOk r (t' ≡ begun kind t) → OnErr r (t' ≡ t) → Shuffle (begun_active r kind t.records) (active_of t'.records) → Steps l (Begin kind) b (told Began r) b t' s v
+      go true spent r d g e moves stays acts =
+          let same = subst (λ r. OnErr r (t' ≡ t)) e stays in
+          rw (e, same) (keeps_refused f (Begin kind) b TooManyActive (rw (many ∙ d)))
+      go false true r d g e moves stays acts =
+          let same = subst (λ r. OnErr r (t' ≡ t)) e stays in
+          rw (e, same) (subst (λ n. Steps l (Begin kind) b (Refused (ClockSpent n)) b t s v) (last_is f) (keeps_refused f (Begin kind) b (ClockSpent l.limits.last) (rw (many ∙ d, late ∙ g))))
+      go false false r d g e moves stays acts =
+          let is = subst (λ r. OnOk r (t' ≡ begun kind t)) e moves in
+          rw (e, ← f.clock) (keeps_moved f (Begin kind) b b (Began (l.clock + 1)) (l.clock + 1) (fresh (l.clock + 1) kind ∷ l.active) t' (rw (many ∙ d, late ∙ g)) (ap (λ n. n + 1) f.clock ∙ sym (ap (λ z. z.clock) is)) (sym (ap (λ z. z.last) is))
           (join (keep f.active) (subst (λ n. Shuffle (fresh (n + 1) kind ∷ active_of t.records) (active_of t'.records)) (sym f.clock) (subst (λ r. Shuffle (begun_active r kind t.records) (active_of t'.records)) e acts))))
 
   -- Abort
 
-  pub abort_steps : (h : ℕ) (b : List ℕ) (r : Result (Unit {0}) Fault) (t' : Table) → Released t h r t' → Steps l (Abort h) b (told (λ _. Aborted) r) b t' s v
-  abort_steps h b (Ok u) t' left =
-      let here = left.here in
-      let freed = left.freed in
-      let is = ap active_of freed.is ∙ slots_free t.records left.place h here.at freed.left here.reads here.is_taken here.has freed.is_free (places_apart f) in
-      keeps_moved f (Abort h) b b Aborted l.clock (without l.active h) t' (rw (found_here f h left.place here)) (f.clock ∙ sym left.ticks) (sym left.last_same) (rw is (shuffle_kept _ f.active))
-  abort_steps h b (Err x) t' (is_x, none, same) =
-      subst (λ y. Steps l (Abort h) b (Refused y) b t' s v) (sym is_x)
-      (keeps_refused f (Abort h) b (NoTransaction h) t' (rw (found_same f h ∙ none)) (ap (λ x. x.clock) (sym same)) (ap (λ x. x.last) (sym same)) (subst (λ x. Shuffle l.active (active_of x.records)) (sym same) f.active))
+  pub abort_steps : (h : ℕ) (b : List ℕ) (r : Result (Unit {0}) Fault) (t' : Table) → r ≡ release_answer h t → OnOk r (t' ≡ released h t) → OnErr r (t' ≡ t) → Steps l (Abort h) b (told (λ _. Aborted) r) b t' s v
+  abort_steps h b r t' e moves stays = go (found (active_of t.records) h) refl r e moves stays
+    where
+      go : (o : Option Transaction) → found (active_of t.records) h ≡ o → (r : Result (Unit {0}) Fault) → r ≡ cond (is_some o) (Ok tt) (Err (NoTransaction h)) → OnOk r (t' ≡ released h t) → OnErr r (t' ≡ t) → Steps l (Abort h) b (told (λ _. Aborted) r) b t' s v
+      go None d r e moves stays =
+          let same = subst (λ r. OnErr r (t' ≡ t)) e stays in
+          rw (e, same) (keeps_refused f (Abort h) b (NoTransaction h) (rw (found_same f h ∙ d)))
+      go (Some u) d r e moves stays =
+          let is = subst (λ r. OnOk r (t' ≡ released h t)) e moves in
+          rw (e, is) (keeps_moved f (Abort h) b b Aborted l.clock (without l.active h) (released h t) (rw (found_same f h ∙ d)) f.clock refl (freed_active f h))
 
   -- Read and write
 
   -- no record is taken with the handle
-  pub missing_steps : {X : Type 0} (told-of : X → Answer) (c : Call) (b : List ℕ) (h : ℕ) (r : Result X Fault) (x : Fault) → IsErrAnd r (λ y. y ≡ x) → (x ≡ NoTransaction h) × (found (active_of t.records) h ≡ None) → (found l.active h ≡ None → step l c b ≡ refused l b (NoTransaction h)) → Steps l c b (told told-of r) b t s v
-  missing_steps told-of c b h r x err (is-x, none) stays =
-      let p = err_from_is_err_and r err in
-      rw (p.1, p.2, is-x) (keeps_refused f c b (NoTransaction h) t (stays (found_same f h ∙ none)) refl refl f.active)
+  pub missing_steps : {X : Type 0} (told-of : X → Answer) (c : Call) (b : List ℕ) (h : ℕ) (r : Result X Fault) → (r ≡ Err (NoTransaction h)) × (None ≡ position (has_handle h) t.records) → (found l.active h ≡ None → step l c b ≡ refused l b (NoTransaction h)) → Steps l c b (told told-of r) b t s v
+  missing_steps told-of c b h r (is, none) stays = rw is (keeps_refused f c b (NoTransaction h) (stays (found_same f h ∙ found_none t.records h none)))
 
   -- the record at i became new
-  module _ (h i : ℕ) (there : Here t.records h i) (d new : Record) (kept : new.state ≡ (get_or t.records i d).state) (keys : ℕ) (of-store : keys ≡ s.keys) where
+  module _ (h i : ℕ) (d new : Record) (there : Some i ≡ position (has_handle h) t.records) (kept : new.state ≡ (get_or t.records i d).state) (keys : ℕ) (of-store : keys ≡ s.keys) where
     abbrev pub here : Here t.records h i
-    here = here_at t.records h i there d
+    here = here_from t.records h i d there
 
     keys_are : l.limits.keys ≡ keys
     keys_are = ap (λ n. n.keys) (limits_are f (busy f h _ (found_here f h i here))) ∙ sym of-store
@@ -127,17 +133,17 @@ module _ {l : Ledger} {t : Table} {s : Store} {v : Stamps} (f : Fits l t s v) wh
         (subst (Shuffle (changed l.active h g)) (sym (slots_put t.records i h here.at new g here.reads here.is_taken here.has on is (places_apart f))) (shuffle_map _ f.active))
 
     -- the record refused the call
-    stayed : (c : Call) (b : List ℕ) (x : Fault) → step l c b ≡ refused l b x → view new ≡ view here.at → Steps l c b (Refused x) b (with_record t i new) s v
-    stayed c b x e is = keeps_refused f c b x (with_record t i new) e refl refl (subst (Shuffle l.active) (sym (slots_same t.records i here.at new here.reads kept is)) f.active)
+    stayed : (c : Call) (b : List ℕ) (x : Fault) → step l c b ≡ refused l b x → new ≡ get_or t.records i d → Steps l c b (Refused x) b (with_record t i new) s v
+    stayed c b x e is = rw (kept_record t i d new is) (keeps_refused f c b x e)
 
-    pub write_steps : (k x room : ℕ) (b : List ℕ) (r : Result (Unit {0}) Fault) → r ≡ admits keys room (view here.at) (Write h k x) → view new ≡ noted_on r (view here.at) (Write h k x) → Steps l (Write h k x) b (told (λ _. Wrote) r) b (with_record t i new) s v
-    write_steps k x room b (Ok u) e is = took (Write h k x) b b Wrote (λ u. wrote u k x) (write_step l b h k x _ keys room keys_are (found_here f h i here) ∙ ap (outcome l b Wrote b (changed l.active h (λ u. wrote u k x))) (sym e)) is
-    write_steps k x room b (Err y) e is = stayed (Write h k x) b y (write_step l b h k x _ keys room keys_are (found_here f h i here) ∙ ap (outcome l b Wrote b (changed l.active h (λ u. wrote u k x))) (sym e)) is
+    pub write_steps : (k x room : ℕ) (b : List ℕ) (r : Result (Unit {0}) Fault) → r ≡ admits keys room (view here.at) (Write h k x) → view new ≡ noted_on r (view here.at) (Write h k x) → OnErr r (new ≡ get_or t.records i d) → Steps l (Write h k x) b (told (λ _. Wrote) r) b (with_record t i new) s v
+    write_steps k x room b (Ok u) e is same = took (Write h k x) b b Wrote (λ u. wrote u k x) (write_step l b h k x _ keys room keys_are (found_here f h i here) ∙ ap (outcome l b Wrote b (changed l.active h (λ u. wrote u k x))) (sym e)) is
+    write_steps k x room b (Err y) e is same = stayed (Write h k x) b y (write_step l b h k x _ keys room keys_are (found_here f h i here) ∙ ap (outcome l b Wrote b (changed l.active h (λ u. wrote u k x))) (sym e)) same
 
     read_is : (k n : ℕ) (b : List ℕ) (r : Result (Unit {0}) Fault) → r ≡ admits keys (length b) (view here.at) (Read h k n) → step l (Read h k n) b ≡ outcome l b ReadDone (map (seen l (view here.at)) (keys_from k n) ++ drop n b) (changed l.active h (λ u. joined u k n)) r
     read_is k n b r e = read_step l b h k n _ keys keys_are (found_here f h i here) ∙ ap (outcome l b ReadDone (map (seen l (view here.at)) (keys_from k n) ++ drop n b) (changed l.active h (λ u. joined u k n))) (sym e)
 
-    pub read_refused : (k n : ℕ) (b : List ℕ) (x : Fault) → Err x ≡ admits keys (length b) (view here.at) (Read h k n) → view new ≡ view here.at → Steps l (Read h k n) b (Refused x) b (with_record t i new) s v
+    pub read_refused : (k n : ℕ) (b : List ℕ) (x : Fault) → Err x ≡ admits keys (length b) (view here.at) (Read h k n) → new ≡ get_or t.records i d → Steps l (Read h k n) b (Refused x) b (with_record t i new) s v
     read_refused k n b x e is = stayed (Read h k n) b x (read_is k n b (Err x) e) is
 
     pub read_steps : (k n : ℕ) (b b' : List ℕ) → Ok tt ≡ admits keys (length b) (view here.at) (Read h k n) → view new ≡ joined (view here.at) k n → b' ≡ map (shown s (view new)) (keys_from k n) ++ drop n b → Steps l (Read h k n) b ReadDone b' (with_record t i new) s v

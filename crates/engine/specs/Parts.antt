@@ -1,6 +1,6 @@
 -- What an engine is made of, and what a slip holds.
 use Rattle.std.specs.Prelude.{ℕ}
-use Rattle.ledger.specs.Ledger.{new_ledger}
+use Rattle.ledger.specs.Ledger.{Ledger, new_ledger}
 use Rattle.versions.specs.Meaning.{Meaning as Store}
 use Rattle.validation.specs.Meaning.{Meaning as Stamps}
 use Rattle.transaction_table.specs.declared.table.Table.{Table}
@@ -18,9 +18,13 @@ validator_of e = e.validator
 abbrev pub table_of : {S V : Type 0} → Engine S V → Table
 table_of e = e.table
 
+-- the ledger fits the engine
+abbrev pub FitsEngine : {S V : Type 0} → (S → Store) → (V → Stamps) → Ledger → Engine S V → Type 0
+FitsEngine m p l e = Fits l e.table (m e.store) (p e.validator)
+
 -- the new ledger of its limits fits the engine
 abbrev pub FitsNew : {S V : Type 0} → (S → Store) → (V → Stamps) → Engine S V → Type 0
-FitsNew m p e = Fits (new_ledger (limits_of e.table.last (m e.store) (p e.validator))) e.table (m e.store) (p e.validator)
+FitsNew m p e = FitsEngine m p (new_ledger (limits_of e.table.last (m e.store) (p e.validator))) e
 
 -- the transaction that a slip gives leave to act in
 abbrev pub handle_of : {K : Type 0} → Slip K → ℕ

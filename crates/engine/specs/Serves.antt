@@ -13,6 +13,7 @@ use Rattle.validation.specs.Meaning.{Meaning as Stamps}
 use Rattle.transaction_table.specs.declared.table.Table.{Table}
 use Rattle.engine.specs.declared.engine.Engine.{Engine}
 use Rattle.engine.specs.Fits.{Fits}
+use Rattle.engine.specs.Parts.{FitsEngine}
 
 -- what a result answers
 abbrev pub told : {X : Type 0} → (X → Answer) → Result X Fault → Answer
@@ -25,25 +26,28 @@ pub record Steps (l : Ledger) (c : Call) (b : List ℕ) (a : Answer) (b' : List 
   pub buffer : b' ≡ (step l c b).buffer
   pub after : Fits (step l c b).ledger t s v
 
+-- P, if the call was refused
+abbrev pub OnRefused : Answer → Type 0 → Type 0
+OnRefused a P = (f : Fault) → a ≡ Refused f → P
+
 -- From e to e' a call c was made with the buffer b, answered a, and left b' in the buffer. m and p are the meanings of the store and of the validator.
 
 -- each ledger that fits before the call tells the answer and the buffer, and fits a step further after it
 abbrev pub Serves : {S V : Type 0} → (S → Store) → (V → Stamps) → Engine S V → Engine S V → Call → List ℕ → Answer → List ℕ → Type 0
-Serves m p e e' c b a b' = (l : Ledger) → Fits l e.table (m e.store) (p e.validator)
+Serves m p e e' c b a b' = (l : Ledger) → FitsEngine m p l e
     → Steps l c b a b' e'.table (m e'.store) (p e'.validator)
 
 -- the same of a call that is lent no buffer: whatever it is, it is left as it was
 abbrev pub ServesBare : {S V : Type 0} → (S → Store) → (V → Stamps) → Engine S V → Engine S V → Call → Answer → Type 0
 ServesBare m p e e' c a = (b : List ℕ) → Serves m p e e' c b a b
 
--- an engine from a refused set-up touches neither store nor validator
--- not a part of Serves, where it is no plainer: both have to be named, and each call's answer written out
+-- an engine from a refused set-up touches neither store nor validator, and stays one
 abbrev pub Idle : {S V : Type 0} → Engine S V → Engine S V → Type 0
-Idle e e' = e.table.last ≡ 0 → (e'.store ≡ e.store) × (e'.validator ≡ e.validator)
+Idle e e' = e.table.last ≡ 0 → (e'.store ≡ e.store) × (e'.validator ≡ e.validator) × (e'.table.last ≡ 0)
 
 -- the history led to the engine
 abbrev pub Led : {S V : Type 0} → (S → Store) → (V → Stamps) → Limits → List Made → Engine S V → Type 0
-Led m p n ms e = Told n ms × Fits (after n ms) e.table (m e.store) (p e.validator)
+Led m p n ms e = Told n ms × FitsEngine m p (after n ms) e
 
 -- the values that the store's newest answers
 abbrev pub newest_in : Store → ℕ → ℕ

@@ -11,7 +11,8 @@ use Rattle.transaction_table.specs.declared.record.Record.{Record}
 use Rattle.transaction_table.specs.declared.table.Table.{Table}
 use Rattle.engine.specs.declared.engine.Engine.{Engine}
 use Rattle.transaction_table.specs.View.{view}
-use Rattle.engine.specs.Fits.{limits_of, Holds, Fits}
+use Rattle.engine.specs.Fits.{limits_of, Holds}
+use Rattle.engine.specs.Parts.{FitsEngine}
 
 -- From e to e' a part of a commit was done. m and p are the meanings of the store and of the validator.
 
@@ -20,8 +21,8 @@ abbrev pub with_room : Ledger → ℕ → Ledger
 with_room l n = if nat_lt (free l) n then reclaimed l else l
 
 abbrev pub MakesRoom : {S V : Type 0} → (S → Store) → (V → Stamps) → Engine S V → Engine S V → ℕ → Type 0
-MakesRoom m p e e' n = (l : Ledger) → 0 < e.table.last → Fits l e.table (m e.store) (p e.validator)
-    → Fits (with_room l n) e'.table (m e'.store) (p e'.validator)
+MakesRoom m p e e' n = (l : Ledger) → 0 < e.table.last → FitsEngine m p l e
+    → FitsEngine m p (with_room l n) e'
 
 -- the verdict is that of the outcome, and but for the record, which is still taken, the outcome's ledger fits; ts are its transactions
 pub record Judged (o : Outcome) (b : List ℕ) (ts : List Transaction) (verdict : Verdict) (t t' : Table) (s : Store) (v : Stamps) : Type 0 where
@@ -37,7 +38,7 @@ pub record Judged (o : Outcome) (b : List ℕ) (ts : List Transaction) (verdict 
 abbrev pub Judges : {S V : Type 0} → (S → Store) → (V → Stamps) → Engine S V → Engine S V → Record → Verdict → Type 0
 Judges m p e e' r verdict =
     (l : Ledger) (b : List ℕ)
-    → Fits l e.table (m e.store) (p e.validator)
+    → FitsEngine m p l e
     → found l.active r.start ≡ Some (view r)
     → is_reader (view r).kind ≡ false
     → Judged (step l (Commit r.start) b) b (without l.active r.start) verdict e.table e'.table (m e'.store) (p e'.validator)

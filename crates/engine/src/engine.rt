@@ -1,11 +1,11 @@
-ghost use Rattle.std.specs.Prelude.{◌≡◌, ◌+◌, ◌^◌, ◌<◌, ◌≤◌, ◌++◌, map, length, drop, None, IfOk, IfErr};
+ghost use Rattle.std.specs.Prelude.{◌≡◌, ◌+◌, ◌^◌, ◌<◌, ◌≤◌, ◌++◌, map, length, drop, position, IfOk, OnErr};
+ghost use Rattle.std.specs.Option.{ok_or};
 ghost use Rattle.ledger.specs.declared.Call.TheVariants.{Begin, Read, Write, Abort};
 ghost use Rattle.ledger.specs.declared.Answer.TheVariants.{Began, Read as ReadDone, Wrote, Aborted};
 ghost use Rattle.ledger.specs.declared.Fault.TheVariants.{NoTransaction};
-ghost use Rattle.ledger.specs.Ledger.{found};
 ghost use Rattle.ledger.specs.Calls.{keys_from};
-ghost use Rattle.transaction_table.specs.View.{view, active_of};
-ghost use Rattle.transaction_table.specs.Places.{begin_answer, Here};
+ghost use Rattle.transaction_table.specs.View.{view};
+ghost use Rattle.transaction_table.specs.Places.{begin_answer, has_handle};
 ghost use Rattle.engine.specs.Shows.{shown, value_in};
 ghost use Rattle.engine.specs.Parts.{store_of, validator_of, table_of, FitsNew};
 ghost use Rattle.engine.specs.SetUp.{set_up_answer, last_of};
@@ -69,13 +69,13 @@ impl<S: VersionStore, V: Validator> Engine<S, V> {
         ensures answer { result ≡ begin_answer (table_of self.old) }
         ensures serves { ServesBare S.meaning V.meaning self.old self.new
             (Begin kind) (told Began result) }
+        ensures refusal { OnErr result (self.new ≡ self.old) }
         ensures idle { Idle self.old self.new }
     {
         self.table.begin(kind)
     }
 
     /// Reads the values of count keys from the first on into the front of the buffer.
-    // First and count stand apart, as the caller of a call gives them; behind it they are a `Range`.
     pub fn read(
         &mut self,
         handle: u32,
@@ -85,6 +85,7 @@ impl<S: VersionStore, V: Validator> Engine<S, V> {
     ) -> Result<(), Fault>
         ensures serves { Serves S.meaning V.meaning self.old self.new
             (Read handle first count) buffer.old (told (λ _. ReadDone) result) buffer.new }
+        ensures refusal { OnErr result ((self.new ≡ self.old) × (buffer.new ≡ buffer.old)) }
         ensures idle { Idle self.old self.new }
     {
         let slot = self.place(handle)?;
@@ -96,10 +97,10 @@ impl<S: VersionStore, V: Validator> Engine<S, V> {
     }
 
     /// Notes a value to be written to a key when the transaction is committed.
-    // Key and value stand apart, as the caller of a call gives them; behind it they are a `Write`.
     pub fn write(&mut self, handle: u32, key: u16, value: u64) -> Result<(), Fault>
         ensures serves { ServesBare S.meaning V.meaning self.old self.new
             (Write handle key value) (told (λ _. Wrote) result) }
+        ensures refusal { OnErr result (self.new ≡ self.old) }
         ensures idle { Idle self.old self.new }
     {
         let slot = self.place(handle)?;
@@ -112,6 +113,7 @@ impl<S: VersionStore, V: Validator> Engine<S, V> {
     pub fn abort(&mut self, handle: u32) -> Result<(), Fault>
         ensures serves { ServesBare S.meaning V.meaning self.old self.new
             (Abort handle) (told (λ _. Aborted) result) }
+        ensures refusal { OnErr result (self.new ≡ self.old) }
         ensures idle { Idle self.old self.new }
     {
         self.table.release(handle)
@@ -119,9 +121,9 @@ impl<S: VersionStore, V: Validator> Engine<S, V> {
 
     /// The place of the transaction with this handle, if there is one.
     fn place(&self, handle: u32) -> Result<usize, Fault>
-        ensures there { IfOk result (Here self.now.table.records handle) }
-        ensures missing { IfErr result (λ fault. (fault ≡ NoTransaction handle) ×
-            (found (active_of self.now.table.records) handle ≡ None)) }
+        ensures place { result ≡ ok_or (position (has_handle handle) self.now.table.records)
+            (NoTransaction handle) }
+        ensures within { IfOk result (λ slot. slot < 16) }
     {
         self.table.find(handle).ok_or(Fault::NoTransaction(handle))
     }
@@ -137,7 +139,7 @@ fn fill<S: VersionStore>(store: &S, taker: &Record, range: Range, buffer: &mut [
     // No `zip` with the keys: of what a loop writes through a `zip` no proof knows the values.
     let front = &mut buffer[..usize::from(range.count)];
     for (i, place) in front.iter_mut().enumerate() {
-        // `u16` has no `From<usize>`; `i` is below the count.
+        // `i` is below the count.
         *place = value_at(store, taker, range.first + i as u16);
     }
 }

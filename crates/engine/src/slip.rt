@@ -1,5 +1,5 @@
 // Slips: a transaction in hand, which has to be ended.
-ghost use Rattle.std.specs.Prelude.{◌≡◌, ◌<◌, IfOk};
+ghost use Rattle.std.specs.Prelude.{◌≡◌, ◌<◌, IfOk, OnErr};
 ghost use Rattle.ledger.specs.declared.Kind.{Kind};
 ghost use Rattle.ledger.specs.declared.Kind.TheVariants.{Reader, Updater};
 ghost use Rattle.ledger.specs.declared.Call.TheVariants.{Begin, Read, Write, Commit, Abort};
@@ -85,6 +85,7 @@ impl<S: VersionStore, V: Validator> Engine<S, V> {
     pub fn begin_slip<K: Leave>(&mut self) -> Result<Slip<K>, Fault>
         ensures serves { ServesBare S.meaning V.meaning self.old self.new
             (Begin K.KIND) (told (λ s. Began (handle_of s)) result) }
+        ensures refusal { OnErr result (self.new ≡ self.old) }
         ensures held { IfOk result (λ s. 0 < handle_of s) }
         ensures idle { Idle self.old self.new }
     {
@@ -105,6 +106,7 @@ impl<S: VersionStore, V: Validator> Engine<S, V> {
         ensures serves { Serves S.meaning V.meaning self.old self.new
             (Read (handle_of slip.now) first count)
             buffer.old (told (λ _. ReadDone) result) buffer.new }
+        ensures refusal { OnErr result ((self.new ≡ self.old) × (buffer.new ≡ buffer.old)) }
         ensures idle { Idle self.old self.new }
     {
         self.read(slip.handle, first, count, buffer)
@@ -119,6 +121,7 @@ impl<S: VersionStore, V: Validator> Engine<S, V> {
     ) -> Result<(), Fault>
         ensures serves { ServesBare S.meaning V.meaning self.old self.new
             (Write (handle_of under.entry.slip.now) key value) (told (λ _. Wrote) result) }
+        ensures refusal { OnErr result (self.new ≡ self.old) }
         ensures idle { Idle self.old self.new }
     {
         self.write(under.slip.handle, key, value)
@@ -128,6 +131,7 @@ impl<S: VersionStore, V: Validator> Engine<S, V> {
     pub fn commit_under<K>(&mut self, slip: Slip<K>) -> Result<Verdict, Fault>
         ensures serves { ServesBare S.meaning V.meaning self.old self.new
             (Commit (handle_of slip)) (told Ended result) }
+        ensures refusal { OnErr result (self.new ≡ self.old) }
         ensures idle { Idle self.old self.new }
     {
         self.commit(slip.spent())
@@ -137,6 +141,7 @@ impl<S: VersionStore, V: Validator> Engine<S, V> {
     pub fn abort_under<K>(&mut self, slip: Slip<K>) -> Result<(), Fault>
         ensures serves { ServesBare S.meaning V.meaning self.old self.new
             (Abort (handle_of slip)) (told (λ _. Aborted) result) }
+        ensures refusal { OnErr result (self.new ≡ self.old) }
         ensures idle { Idle self.old self.new }
     {
         self.abort(slip.spent())

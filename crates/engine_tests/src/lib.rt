@@ -1,6 +1,5 @@
 //! Runs the engine on the stores and validators that there are, and holds its answers to the rules.
-//! Each test makes its store and validator itself: a helper that makes a pair and hands it to a closure was
-//! tried, and the closure's call did not prove.
+//! Each test makes its store and validator itself: the memory that these are lent is the test's own.
 #![tactic(auto)]
 
 #[cfg(test)]

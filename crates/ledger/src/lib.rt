@@ -15,7 +15,7 @@ pub enum Kind {
     Updater,
 }
 
-#[derive(Clone, Copy, Debug, PartialEq)]
+#[derive(Clone, Copy, Debug, PartialEq, Eq)]
 pub enum Fault {
     LastTick(u32),
     KeyOutside(u16),
@@ -30,7 +30,7 @@ pub enum Fault {
 }
 
 /// What a commit answers.
-#[derive(Clone, Copy, Debug, PartialEq)]
+#[derive(Clone, Copy, Debug, PartialEq, Eq)]
 pub enum Verdict {
     Closed,
     /// The first key read that clashes, and the stamp of its granule.
@@ -54,7 +54,7 @@ pub enum Call {
 }
 
 // An enum of its own and no `Result`: a refusal is an answer that a history is told by, as any other.
-#[derive(Clone, Copy, Debug, PartialEq)]
+#[derive(Clone, Copy, Debug, PartialEq, Eq)]
 pub enum Answer {
     Began(u32),
     Read,
@@ -66,7 +66,7 @@ pub enum Answer {
 }
 
 /// A run of keys.
-#[derive(Clone, Copy, PartialEq)]
+#[derive(Clone, Copy, PartialEq, Eq)]
 pub struct Range {
     pub first: u16,
     pub count: u16,
@@ -109,7 +109,7 @@ impl Fault {
     {
         match self {
             Fault::KeyOutside(key) => u64::from(key),
-            // Rust has no `From<usize> for u64`, and a length cannot fail to fit.
+            // A length fits 64 bits.
             Fault::ShortBuffer(length) => length as u64,
             Fault::NotFresh => 0,
             Fault::TooManyActive => 16,

@@ -1,3 +1,4 @@
+pub mod Searches
 pub mod Shuffles
 pub mod Slots
 pub mod Writes

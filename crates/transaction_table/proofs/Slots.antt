@@ -1,26 +1,44 @@
 -- What one record more, or one record changed, makes of the active transactions.
-use Rattle.std.proofs.Common.{◌≡◌, ℕ, zero, suc, ◌<◌, ◌≤◌, min, Bool, true, false, cond, List, [], ◌∷◌, map, filter, length, get_or, set, Some, None, Option, MatchOption, sym, refl, ap, ◌∙◌, subst, arith, inl, inr}
-use Rattle.std.proofs.lemmas.Bool.{ne_eqb, eq-eqb, cond_both, true≢false}
-use Rattle.std.proofs.lemmas.Option.{get_or_from_slice_get, slice_get_cases}
-use Rattle.std.proofs.lemmas.List.Elements.{All-from_all_within, recursion_from_All}
-use Rattle.std.specs.List.{AllByRecursion, AllWithin, HoldsAt, slice_get, fold}
-use Rattle.ledger.specs.Calls.{without, changed}
+use Rattle.std.proofs.Common.{◌≡◌, ℕ, zero, suc, ◌+◌, ◌<◌, ◌≤◌, min, Bool, true, false, cond, not, ◌&&◌, eqb, leb, List, [], ◌∷◌, map, filter, length, get_or, set, Some, None, Option, sym, refl, ap, ◌∙◌, subst, arith}
+use Rattle.std.proofs.lemmas.Bool.{ne_eqb, eq-eqb, eqb-true, cond_both, and_parts, true≢false, le-leb, lt-leb}
+use Rattle.std.proofs.lemmas.Iterator.Adapters.{position_from-zero}
+use Rattle.std.proofs.lemmas.Option.{get_or_from_slice_get, none-some}
+use Rattle.std.specs.List.{AllByRecursion, slice_get, fold, position, position_from}
+use Rattle.ledger.specs.Calls.{fresh, without, changed, is_some}
 use Rattle.transaction_table.specs.Shuffle.{Shuffle, keep, swap, join}
 use Rattle.ledger.specs.Orderly.{Apart}
 use Rattle.transaction_table.proofs.Shuffles.{shuffle_refl}
 use Rattle.ledger.specs.declared.Kind.{Kind}
+use Rattle.ledger.specs.declared.Kind.TheVariants.{Reader as Reads, Updater as Updates}
 use Rattle.ledger.specs.Ledger.{Transaction, found, least_start}
 use Rattle.transaction_table.specs.declared.record.State.{State}
 use Rattle.transaction_table.specs.declared.record.State.TheVariants.{Free, Reader, Updater}
 use Rattle.transaction_table.specs.declared.record.Record.{Record}
 use Rattle.transaction_table.specs.View.{taken, view, active_of}
-use Rattle.transaction_table.specs.Places.{Here, Located, Vacant, of_kind, holds_kind}
+use Rattle.transaction_table.specs.Places.{of_kind, holds_kind, is_free, has_handle, first_changed, freed, free_record, new_record}
+use Rattle.transaction_table.proofs.Searches.{passing, nowhere}
+
+-- the record at i is taken, and has this handle
+pub record Here (rs : List Record) (h i : ℕ) : Type 0 where
+  pub at : Record
+  pub reads : slice_get rs i ≡ Some at
+  pub is_taken : taken at.state ≡ true
+  pub has : at.start ≡ h
 
 pub active_free : (r : Record) (rs : List Record) → taken r.state ≡ false → active_of (r ∷ rs) ≡ active_of rs
 active_free r rs e = rw e
 
 pub active_taken : (r : Record) (rs : List Record) → taken r.state ≡ true → active_of (r ∷ rs) ≡ view r ∷ active_of rs
 active_taken r rs e = rw e
+
+-- a new record has the transaction that begins
+pub new_view : (start : ℕ) (kind : Kind) → view (new_record start kind) ≡ fresh start kind
+new_view start Reads = refl
+new_view start Updates = refl
+
+pub new_taken : (start : ℕ) (kind : Kind) → taken (new_record start kind).state ≡ true
+new_taken start Reads = refl
+new_taken start Updates = refl
 
 -- a new transaction in a free place
 pub slots_open : (rs : List Record) (i : ℕ) (at r : Record) → slice_get rs i ≡ Some at → taken at.state ≡ false → taken r.state ≡ true → Shuffle (view r ∷ active_of rs) (active_of (set rs i r))
@@ -55,22 +73,6 @@ kept_apart (t ∷ ts) h a = rw (ne_eqb t.start h a.0) (ap (λ us. t ∷ us) (kep
 changed_apart : (ts : List Transaction) (h : ℕ) (f : Transaction → Transaction) → AllByRecursion (λ u. u.start ≡ h → ⊥) ts → changed ts h f ≡ ts
 changed_apart [] h f a = refl
 changed_apart (u ∷ ts) h f a = rw (ne_eqb u.start h a.0) (ap (λ us. u ∷ us) (changed_apart ts h f a.1))
-
-pub slots_free : (rs : List Record) (i h : ℕ) (at r : Record) → slice_get rs i ≡ Some at → taken at.state ≡ true → at.start ≡ h → taken r.state ≡ false → Apart (active_of rs) → active_of (set rs i r) ≡ without (active_of rs) h
-slots_free [] i h at r e on has off a = refl
-slots_free (u ∷ rs) zero h at r e on has off a =
-    let same : u ≡ at = cc in
-    let t = active_taken u rs (ap (λ x. taken x.state) same ∙ on) in
-    let starts : u.start ≡ h = ap (λ x. x.start) same ∙ has in
-    let b = subst Apart t a in
-    rw (active_free r rs off, t, eq-eqb u.start h starts) (sym (kept_apart (active_of rs) h (rw starts at b.0)))
-slots_free (u ∷ rs) (suc i) h at r e on has off a = go (taken u.state) a (slots_free rs i h at r e on has off)
-  where
-    go : (b : Bool) → Apart (cond b (view u ∷ active_of rs) (active_of rs)) → (Apart (active_of rs) → active_of (set rs i r) ≡ without (active_of rs) h) → cond b (view u ∷ active_of (set rs i r)) (active_of (set rs i r)) ≡ without (cond b (view u ∷ active_of rs) (active_of rs)) h
-    go true q later =
-        let ne : u.start ≡ h → ⊥ = λ s. slots_at (λ x. x.start ≡ u.start → ⊥) rs i at e on q.0 (has ∙ sym s) in
-        rw (ne_eqb u.start h ne) (ap (λ us. view u ∷ us) (later q.1))
-    go false q later = later q
 
 pub slots_put : (rs : List Record) (i h : ℕ) (at r : Record) (f : Transaction → Transaction) → slice_get rs i ≡ Some at → taken at.state ≡ true → at.start ≡ h → taken r.state ≡ true → view r ≡ f (view at) → Apart (active_of rs) → active_of (set rs i r) ≡ changed (active_of rs) h f
 slots_put [] i h at r f e on has off is a = refl
@@ -112,17 +114,6 @@ slots_few [] i at e off = cc
 slots_few (u ∷ rs) zero at e off = let same : u ≡ at = cc in rw (active_free u rs (ap (λ x. taken x.state) same ∙ off)) (omega (arith, length_active rs))
 slots_few (u ∷ rs) (suc i) at e off = let h = slots_few rs i at e off in cond_both (taken u.state) (view u ∷ active_of rs) (active_of rs) (λ us. length us < suc (length rs)) (λ _. omega arith) (λ _. omega arith)
 
--- the record of a place, as it is read
-abbrev pub here_at : (rs : List Record) (h i : ℕ) → Here rs h i → (d : Record) → Here rs h i
-here_at rs h i here d =
-    let same = get_or_from_slice_get rs i here.at d here.reads in
-    record { at = get_or rs i d; reads = here.reads ∙ ap Some (sym same); within = here.within; is_taken = ap (λ r. taken r.state) same ∙ here.is_taken; has = ap (λ r. r.start) same ∙ here.has }
-
-pub slots_same : (rs : List Record) (i : ℕ) (at r : Record) → slice_get rs i ≡ Some at → r.state ≡ at.state → view r ≡ view at → active_of (set rs i r) ≡ active_of rs
-slots_same [] i at r e on same = refl
-slots_same (u ∷ rs) zero at r e on same = let is : u ≡ at = cc in ap (λ s. cond (taken s) (view r ∷ active_of rs) (active_of rs)) on ∙ ap (λ v. cond (taken at.state) (v ∷ active_of rs) (active_of rs)) same ∙ ap (λ x. active_of (x ∷ rs)) (sym is)
-slots_same (u ∷ rs) (suc i) at r e on same = ap (λ us. cond (taken u.state) (view u ∷ us) us) (slots_same rs i at r e on same)
-
 pub least_more : (kind : Kind) (r : Record) (rs : List Record) (n : ℕ) → least_start (of_kind kind) n (active_of (r ∷ rs)) ≡ cond (holds_kind kind r.state) (min r.start (least_start (of_kind kind) n (active_of rs))) (least_start (of_kind kind) n (active_of rs))
 least_more kind r rs n = go r.state refl
   where
@@ -133,40 +124,79 @@ least_more kind r rs n = go r.state refl
 
 -- Searches
 
--- the record holds a transaction with this handle
-abbrev pub Has : ℕ → Record → Type 0
-Has h r = (r.start ≡ h) × (taken r.state ≡ true)
+-- where the search for a handle ended, as it is read
+abbrev pub here_from : (rs : List Record) (h i : ℕ) (d : Record) → Some i ≡ position (has_handle h) rs → Here rs h i
+here_from rs h i d e =
+    let s = passing (has_handle h) rs i d e in
+    let same = get_or_from_slice_get rs i s.at d s.reads in
+    let both = and_parts (eqb s.at.start h) (taken s.at.state) s.passes in
+    record { at = get_or rs i d; reads = s.reads ∙ ap Some (sym same); is_taken = ap (λ r. taken r.state) same ∙ both.1; has = ap (λ r. r.start) same ∙ eqb-true s.at.start h both.0 }
 
-abbrev pub Lacks : ℕ → Record → Type 0
-Lacks h r = r.start ≡ h → taken r.state ≡ false
-
-none_found : (rs : List Record) (h : ℕ) → AllByRecursion (Lacks h) rs → found (active_of rs) h ≡ None
-none_found [] h a = refl
-none_found (r ∷ rs) h a = go (taken r.state) a.0 (none_found rs h a.1)
+found_from : (rs : List Record) (h n : ℕ) → is_some (found (active_of rs) h) ≡ is_some (position_from (has_handle h) n rs)
+found_from [] h n = refl
+found_from (r ∷ rs) h n = go (taken r.state) (found_from rs h (n + 1))
   where
-    go : (b : Bool) → (r.start ≡ h → b ≡ false) → found (active_of rs) h ≡ None → found (cond b (view r ∷ active_of rs) (active_of rs)) h ≡ None
-    go true f later = rw (ne_eqb r.start h (λ e. true≢false (f e))) later
-    go false f later = later
+    head : (e : Bool) → is_some (found (active_of rs) h) ≡ is_some (position_from (has_handle h) (n + 1) rs) → is_some (cond e (Some (view r)) (found (active_of rs) h)) ≡ is_some (cond (e && true) (Some n) (position_from (has_handle h) (n + 1) rs))
+    head true later = refl
+    head false later = later
 
--- the first record that holds the handle, or none
-pub first_located : (rs : List Record) (h : ℕ) (r : Option ℕ) → length rs ≡ 16 → MatchOption r (AllWithin (Lacks h) rs 0 (length rs)) (λ i. (i < length rs) × HoldsAt (Has h) rs i × AllWithin (Lacks h) rs 0 i) → Located rs h r
-first_located rs h None n none = none_found rs h (recursion_from_All (Lacks h) rs (All-from_all_within (Lacks h) rs none))
-first_located rs h (Some i) n first = elim (slice_get_cases rs i).1 [
-  | inl (at, within, reads, same) ↦ let has = subst (Has h) same (first.1 at) in record { at = at; reads = reads; within = omega (arith, within); is_taken = has.1; has = has.0 }
-  | inr past ↦ absurd (omega (arith, first.0, past.0))
-]
+    free : (e : Bool) → is_some (found (active_of rs) h) ≡ is_some (position_from (has_handle h) (n + 1) rs) → is_some (found (active_of rs) h) ≡ is_some (cond (e && false) (Some n) (position_from (has_handle h) (n + 1) rs))
+    free true later = later
+    free false later = later
 
-all_taken : (rs : List Record) → AllByRecursion (λ r. taken r.state ≡ true) rs → length (active_of rs) ≡ length rs
-all_taken [] a = refl
-all_taken (r ∷ rs) a = rw (active_taken r rs a.0) (ap suc (all_taken rs a.1))
+    go : (b : Bool) → is_some (found (active_of rs) h) ≡ is_some (position_from (has_handle h) (n + 1) rs) → is_some (found (cond b (view r ∷ active_of rs) (active_of rs)) h) ≡ is_some (cond (eqb r.start h && b) (Some n) (position_from (has_handle h) (n + 1) rs))
+    go true later = head (eqb r.start h) later
+    go false later = free (eqb r.start h) later
 
--- the first free record, or none
-pub first_open : (rs : List Record) (r : Option ℕ) → length rs ≡ 16 → MatchOption r (AllWithin (λ r. taken r.state ≡ true) rs 0 (length rs)) (λ i. (i < length rs) × HoldsAt (λ r. taken r.state ≡ false) rs i × AllWithin (λ r. taken r.state ≡ true) rs 0 i) → Vacant rs r
-first_open rs None n none = all_taken rs (recursion_from_All (λ r. taken r.state ≡ true) rs (All-from_all_within (λ r. taken r.state ≡ true) rs none)) ∙ n
-first_open rs (Some i) n first = elim (slice_get_cases rs i).1 [
-  | inl (at, within, reads, same) ↦ let free = subst (λ r. taken r.state ≡ false) same (first.1 at) in (record { at = at; reads = reads; within = omega (arith, within); is_free = free }, omega (arith, slots_few rs i at reads free))
-  | inr past ↦ absurd (omega (arith, first.0, past.0))
-]
+-- a transaction is active just where a record has its handle
+pub found_position : (rs : List Record) (h : ℕ) → is_some (found (active_of rs) h) ≡ is_some (position (has_handle h) rs)
+found_position rs h = found_from rs h 0 ∙ ap is_some (sym (position_from-zero (has_handle h) rs))
+
+-- no record has the handle
+pub found_none : (rs : List Record) (h : ℕ) → None ≡ position (has_handle h) rs → found (active_of rs) h ≡ None
+found_none rs h e = go (found (active_of rs) h) (found_position rs h ∙ ap is_some (sym e))
+  where
+    go : (o : Option Transaction) → is_some o ≡ false → o ≡ None
+    go None q = refl
+    go (Some t) q = absurd (true≢false q)
+
+busy_from : (rs : List Record) (n : ℕ) → position_from is_free n rs ≡ None → length (active_of rs) ≡ length rs
+busy_from [] n e = refl
+busy_from (r ∷ rs) n e = go (taken r.state) e (busy_from rs (n + 1))
+  where
+    go : (b : Bool) → cond (not b) (Some n) (position_from is_free (n + 1) rs) ≡ None → (position_from is_free (n + 1) rs ≡ None → length (active_of rs) ≡ length rs) → length (cond b (view r ∷ active_of rs) (active_of rs)) ≡ suc (length rs)
+    go true q later = ap suc (later q)
+    go false q later = absurd (none-some n (sym q))
+
+-- no record is free
+pub crowded : (rs : List Record) → length rs ≡ 16 → None ≡ position is_free rs → leb 16 (length (active_of rs)) ≡ true
+crowded rs n e = le-leb _ _ (omega (arith, n, busy_from rs 0 (nowhere is_free rs e)))
+
+-- where the search for a free record ended
+pub vacant_at : (rs : List Record) (i : ℕ) → Some i ≡ position is_free rs → (at : Record) × (slice_get rs i ≡ Some at) × (taken at.state ≡ false)
+vacant_at rs i e = let s = passing is_free rs i free_record e in (s.at, s.reads, free (taken s.at.state) s.passes)
+  where
+    free : (b : Bool) → not b ≡ true → b ≡ false
+    free true q = sym q
+    free false q = refl
+
+-- a record is free
+pub roomy : (rs : List Record) (i : ℕ) → length rs ≡ 16 → Some i ≡ position is_free rs → leb 16 (length (active_of rs)) ≡ false
+roomy rs i n e = let v = vacant_at rs i e in lt-leb _ _ (omega (arith, n, slots_few rs i v.0 v.1 v.2))
+
+-- the record with the handle is freed
+pub active_freed : (rs : List Record) (h : ℕ) → Apart (active_of rs) → active_of (first_changed (has_handle h) freed rs) ≡ without (active_of rs) h
+active_freed [] h a = refl
+active_freed (r ∷ rs) h a = go (taken r.state) (eqb r.start h) refl refl a (active_freed rs h)
+  where
+    us : List Record
+    us = first_changed (has_handle h) freed rs
+
+    go : (b e : Bool) → taken r.state ≡ b → eqb r.start h ≡ e → Apart (cond b (view r ∷ active_of rs) (active_of rs)) → (Apart (active_of rs) → active_of us ≡ without (active_of rs) h) → active_of (cond (e && b) (freed r ∷ rs) (r ∷ us)) ≡ without (cond b (view r ∷ active_of rs) (active_of rs)) h
+    go true true on is q later = rw is (sym (kept_apart (active_of rs) h (subst (λ k. AllByRecursion (λ u. u.start ≡ k → ⊥) (active_of rs)) (eqb-true r.start h is) q.0)))
+    go true false on is q later = rw (on, is) (ap (λ ts. view r ∷ ts) (later q.1))
+    go false true on is q later = rw on (later q)
+    go false false on is q later = rw on (later q)
 
 least_min : (p : Kind → Bool) (n x : ℕ) (ts : List Transaction) → least_start p (min n x) ts ≡ min x (least_start p n ts)
 least_min p n x [] = omega arith

@@ -1,11 +1,15 @@
 -- A write list: where a key stands, and one write more.
-use Rattle.std.proofs.Common.{◌≡◌, ℕ, zero, suc, ◌<◌, Bool, true, false, cond, eqb, List, [], ◌∷◌, ◌++◌, length, get_or, set, Some, None, Option, MatchOption, refl, ap, arith}
-use Rattle.std.specs.List.{AllWithin, HoldsAt, find}
+use Rattle.std.proofs.Common.{◌≡◌, ℕ, zero, suc, ◌+◌, ◌<◌, Bool, true, false, cond, eqb, List, [], ◌∷◌, ◌++◌, length, get_or, set, Some, None, sym, refl, ap, arith}
+use Rattle.std.specs.List.{find, position, position_from}
 use Rattle.std.specs.Option.{option_map}
-use Rattle.std.proofs.lemmas.List.Recursion.{found_at, found_nowhere}
+use Rattle.std.proofs.lemmas.List.Recursion.{found_at}
+use Rattle.std.proofs.lemmas.Option.{none-some}
+use Rattle.std.proofs.lemmas.List.Quantifiers.{position-Some}
 use Rattle.ledger.specs.declared.Write.{Write}
 use Rattle.ledger.specs.Ledger.{own_write, written}
-use Rattle.transaction_table.specs.Notes.{Place}
+use Rattle.ledger.specs.Calls.{is_some}
+use Rattle.transaction_table.specs.Notes.{writes_to}
+use Rattle.transaction_table.proofs.Searches.{nowhere}
 
 pub written_push : (ws : List Write) (k v : ℕ) → own_write k ws ≡ None → written ws k v ≡ ws ++ (record { key = k; value = v } ∷ [])
 written_push [] k v e = refl
@@ -20,13 +24,29 @@ written_at [] i k x d lt before here = absurd (omega arith)
 written_at (w ∷ ws) zero k x d lt before here = rw here
 written_at (w ∷ ws) (suc i) k x d lt before here = rw (before 0 (omega arith)) (ap (λ us. w ∷ us) (written_at ws i k x d (omega arith) (λ j l. before (suc j) (omega arith)) here))
 
--- the first write of a list to the key, or none
-pub first_place : (ws : List Write) (k : ℕ) (r : Option ℕ) → MatchOption r (AllWithin (λ w. eqb w.key k ≡ false) ws 0 (length ws)) (λ i. (i < length ws) × HoldsAt (λ w. eqb w.key k ≡ true) ws i × AllWithin (λ w. eqb w.key k ≡ false) ws 0 i) → Place ws k r
-first_place ws k None none = found_nowhere (own_write k) (λ w. eqb w.key k) (λ w. Some w.value) None refl (λ _ _. refl) ws (record { key = 0; value = 0 }) (λ j l. none j _ (omega arith) l)
-first_place ws k (Some i) first =
-    let value = λ (d : Write). found_at (own_write k) (λ w. eqb w.key k) (λ w. Some w.value) None refl (λ _ _. refl) ws i d first.0 (λ j l. first.2 j d (omega arith) l) (first.1 d) in
+-- the first write to the key stands at i
+pub record Stands (ws : List Write) (k i : ℕ) : Type 0 where
+  pub within : i < length ws
+  pub there : is_some (own_write k ws) ≡ true
+  pub over : (x : ℕ) → written ws k x ≡ set ws i (record { key = k; value = x })
+
+pub stands : (ws : List Write) (k i : ℕ) → Some i ≡ position (writes_to k) ws → Stands ws k i
+stands ws k i e =
     let d : Write = record { key = 0; value = 0 } in
-    record { within = first.0; value = value; there = rw (value d); over = λ x. written_at ws i k x d first.0 (λ j l. first.2 j d (omega arith) l) (first.1 d) }
+    let h = position-Some (writes_to k) ws i d (sym e) in
+    record { within = h.0; there = ap is_some (found_at (own_write k) (writes_to k) (λ w. Some w.value) None refl (λ _ _. refl) ws i d h.0 h.2 h.1); over = λ x. written_at ws i k x d h.0 h.2 h.1 }
+
+unwritten_from : (ws : List Write) (k n : ℕ) → position_from (writes_to k) n ws ≡ None → own_write k ws ≡ None
+unwritten_from [] k n e = refl
+unwritten_from (w ∷ ws) k n e = go (eqb w.key k) e (unwritten_from ws k (n + 1))
+  where
+    go : (b : Bool) → cond b (Some n) (position_from (writes_to k) (n + 1) ws) ≡ None → (position_from (writes_to k) (n + 1) ws ≡ None → own_write k ws ≡ None) → cond b (Some w.value) (own_write k ws) ≡ None
+    go true q later = absurd (none-some n (sym q))
+    go false q later = later q
+
+-- no write is to the key
+pub unwritten : (ws : List Write) (k : ℕ) → None ≡ position (writes_to k) ws → own_write k ws ≡ None
+unwritten ws k e = unwritten_from ws k 0 (nowhere (writes_to k) ws e)
 
 -- the value of the first write to the key
 pub value_found : (k : ℕ) (ws : List Write) → own_write k ws ≡ option_map (λ w. w.value) (find (λ w. eqb w.key k) ws)

@@ -1,5 +1,5 @@
 -- What a read or a write makes of a transaction's lists, and why it is refused.
-use Rattle.std.specs.Prelude.{◌≡◌, ℕ, ◌+◌, ◌<◌, Bool, true, if◌then◌else◌, not, ◌&&◌, ◌||◌, List, [], ◌∷◌, ◌++◌, length, Some, None, Ok, Err, Option, Result, nat_le, nat_lt, slice_index_or, slice_set}
+use Rattle.std.specs.Prelude.{ℕ, ◌+◌, Bool, if◌then◌else◌, not, ◌&&◌, ◌||◌, List, [], ◌∷◌, ◌++◌, length, Ok, Err, Result, ◌==◌, nat_le, nat_lt}
 use Rattle.ledger.specs.declared.Range.{Range}
 use Rattle.ledger.specs.declared.Write.{Write as Entry}
 use Rattle.ledger.specs.declared.Call.{Call}
@@ -23,16 +23,9 @@ join_room rs r = if reads_full rs r.first r.count then Err (record {}) else Ok t
 abbrev pub reads_with : List Range → ℕ → ℕ → List Range
 reads_with rs k n = if any (same_range k n) rs || nat_le 32 (length rs) then rs else (rs ++ (record { first = k; count = n } ∷ []))
 
--- the first write to the key stands at i
-pub record Stands (ws : List Entry) (k i : ℕ) : Type 0 where
-  pub within : i < length ws
-  pub value : (d : Entry) → own_write k ws ≡ Some (slice_index_or ws i d).value
-  pub there : is_some (own_write k ws) ≡ true
-  pub over : (x : ℕ) → written ws k x ≡ slice_set ws i (record { key = k; value = x })
-
-abbrev pub Place : List Entry → ℕ → Option ℕ → Type 0
-Place ws k None = own_write k ws ≡ None
-Place ws k (Some i) = Stands ws k i
+-- it is a write to the key
+abbrev pub writes_to : ℕ → Entry → Bool
+writes_to k w = w.key == k
 
 -- a key that is new to a full write list
 abbrev pub writes_full : List Entry → ℕ → Bool

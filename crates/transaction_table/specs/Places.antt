@@ -1,73 +1,30 @@
--- Where a transaction stands among the records, and what a change of one record makes of them all.
-use Rattle.std.specs.Prelude.{◌≡◌, ℕ, ◌+◌, ◌<◌, Bool, true, false, if◌then◌else◌, not, ◌&&◌, List, ◌∷◌, length, Some, None, Ok, Err, Option, Result, nat_le, slice_set}
-use Rattle.std.specs.List.{slice_get}
+-- Which record a transaction is in, and what a begin and an end make of the table.
+use Rattle.std.specs.Prelude.{ℕ, ◌+◌, Bool, if◌then◌else◌, not, ◌&&◌, List, [], ◌∷◌, length, replicate, Ok, Err, Result, ◌==◌, nat_le}
 use Rattle.ledger.specs.declared.Fault.{Fault}
 use Rattle.ledger.specs.declared.Fault.TheVariants.{NoTransaction, TooManyActive, ClockSpent}
 use Rattle.ledger.specs.declared.Kind.{Kind}
 use Rattle.ledger.specs.declared.Kind.TheVariants.{Reader, Updater}
 use Rattle.ledger.specs.Ledger.{Transaction, found, is_reader}
-use Rattle.ledger.specs.Calls.{fresh}
+use Rattle.ledger.specs.Calls.{fresh, is_some}
 use Rattle.transaction_table.specs.declared.record.State.{State}
-use Rattle.transaction_table.specs.declared.record.State.TheVariants.{Reader as Reads, Updater as Updates}
+use Rattle.transaction_table.specs.declared.record.State.TheVariants.{Free, Reader as Reads, Updater as Updates}
 use Rattle.transaction_table.specs.declared.record.Record.{Record}
 use Rattle.transaction_table.specs.declared.table.Table.{Table}
-use Rattle.transaction_table.specs.View.{taken, kind_of, active_of}
+use Rattle.transaction_table.specs.View.{taken, kind_of, active_of, no_ranges, no_writes}
 
--- the record at i is taken, and has this handle
-pub record Here (rs : List Record) (h i : ℕ) : Type 0 where
-  pub at : Record
-  pub reads : slice_get rs i ≡ Some at
-  pub within : i < 16
-  pub is_taken : taken at.state ≡ true
-  pub has : at.start ≡ h
+-- Records
 
-abbrev pub Located : List Record → ℕ → Option ℕ → Type 0
-Located rs h None = found (active_of rs) h ≡ None
-Located rs h (Some i) = Here rs h i
+abbrev pub is_free : Record → Bool
+is_free r = not (taken r.state)
 
--- the record at i is free
-pub record Open (rs : List Record) (i : ℕ) : Type 0 where
-  pub at : Record
-  pub reads : slice_get rs i ≡ Some at
-  pub within : i < 16
-  pub is_free : taken at.state ≡ false
+-- a transaction with this handle is in the record
+abbrev pub has_handle : ℕ → Record → Bool
+has_handle h r = r.start == h && taken r.state
 
-abbrev pub Vacant : List Record → Option ℕ → Type 0
-Vacant rs None = length (active_of rs) ≡ 16
-Vacant rs (Some i) = Open rs i × (length (active_of rs) < 16)
-
--- the record at i is free now, and the others are as they were
-pub record Freed (rs : List Record) (i : ℕ) (us : List Record) : Type 0 where
-  pub left : Record
-  pub is : us ≡ slice_set rs i left
-  pub is_free : taken left.state ≡ false
-
--- Begin
-
--- sixteen are active, or the clock is at the last tick, or the next tick is drawn
-abbrev pub begin_answer : Table → Result ℕ Fault
-begin_answer t =
-    if nat_le 16 (length (active_of t.records)) then Err TooManyActive
-    else if nat_le t.last t.clock then Err (ClockSpent t.last)
-    else Ok (t.clock + 1)
-
--- one transaction more, at this tick
-abbrev pub begun_active : Result ℕ Fault → Kind → List Record → List Transaction
-begun_active (Ok start) kind rs = fresh start kind ∷ active_of rs
-begun_active (Err f) kind rs = active_of rs
-
--- End
-
-pub record Left (t : Table) (h : ℕ) (u : Table) : Type 0 where
-  pub place : ℕ
-  pub here : Here t.records h place
-  pub ticks : u.clock ≡ t.clock
-  pub last_same : u.last ≡ t.last
-  pub freed : Freed t.records place u.records
-
-abbrev pub Released : Table → ℕ → Result (Unit {0}) Fault → Table → Type 0
-Released t h (Ok x) u = Left t h u
-Released t h (Err f) u = (f ≡ NoTransaction h) × (found (active_of t.records) h ≡ None) × (u ≡ t)
+-- the first element that passes p is what f makes of it
+abbrev pub first_changed : {X : Type 0} → (X → Bool) → (X → X) → List X → List X
+first_changed p f [] = []
+first_changed p f (x ∷ xs) = if p x then f x ∷ xs else x ∷ first_changed p f xs
 
 abbrev pub of_kind : Kind → Kind → Bool
 of_kind Reader k = is_reader k
@@ -81,3 +38,42 @@ holds_kind kind s = taken s && of_kind kind (kind_of s)
 abbrev pub state_of : Kind → State
 state_of Reader = Reads
 state_of Updater = Updates
+
+abbrev pub new_record : ℕ → Kind → Record
+new_record start kind = record { state = state_of kind; start = start; reads = no_ranges; writes = no_writes }
+
+abbrev pub free_record : Record
+free_record = record { state = Free; start = 0; reads = no_ranges; writes = no_writes }
+
+-- what the record's transaction leaves in it
+abbrev pub freed : Record → Record
+freed r = record { state = Free; start = r.start; reads = r.reads; writes = r.writes }
+
+-- The table
+
+abbrev pub new_table : ℕ → Table
+new_table last = record { clock = 0; last = last; records = replicate 16 free_record }
+
+-- sixteen are active, or the clock is at the last tick, or the next tick is drawn
+abbrev pub begin_answer : Table → Result ℕ Fault
+begin_answer t =
+    if nat_le 16 (length (active_of t.records)) then Err TooManyActive
+    else if nat_le t.last t.clock then Err (ClockSpent t.last)
+    else Ok (t.clock + 1)
+
+-- the next tick is drawn, and the first free record has the transaction that begins at it
+abbrev pub begun : Kind → Table → Table
+begun kind t = record { clock = t.clock + 1; last = t.last; records = first_changed is_free (λ _. new_record (t.clock + 1) kind) t.records }
+
+-- one transaction more, at this tick
+abbrev pub begun_active : Result ℕ Fault → Kind → List Record → List Transaction
+begun_active (Ok start) kind rs = fresh start kind ∷ active_of rs
+begun_active (Err f) kind rs = active_of rs
+
+-- a transaction with this handle is active
+abbrev pub release_answer : ℕ → Table → Result (Unit {0}) Fault
+release_answer h t = if is_some (found (active_of t.records) h) then Ok tt else Err (NoTransaction h)
+
+-- the first record with the handle is free
+abbrev pub released : ℕ → Table → Table
+released h t = record { clock = t.clock; last = t.last; records = first_changed (has_handle h) freed t.records }

@@ -6,7 +6,7 @@ use Rattle.ledger.specs.declared.Range.{Range}
 use Rattle.ledger.specs.declared.Write.{Write}
 use Rattle.ledger.specs.Ledger.{Transaction}
 use Rattle.transaction_table.specs.declared.lists.Bounded.{Bounded}
-use Rattle.transaction_table.specs.Bounded.{held}
+use Rattle.transaction_table.specs.Bounded.{held, no_items}
 use Rattle.transaction_table.specs.declared.record.State.{State}
 use Rattle.transaction_table.specs.declared.record.State.TheVariants.{Free, Reader as Reads, Updater as Updates}
 use Rattle.transaction_table.specs.declared.record.Record.{Record}
@@ -27,6 +27,13 @@ ranges r = held r
 
 abbrev pub entries : Bounded Write 32 → List Write
 entries w = held w
+
+-- the lists of a record in which no transaction has read or written
+abbrev pub no_ranges : Bounded Range 32
+no_ranges = no_items (record { first = 0; count = 0 })
+
+abbrev pub no_writes : Bounded Write 32
+no_writes = no_items (record { key = 0; value = 0 })
 
 abbrev pub view : Record → Transaction
 view r = record { start = r.start; kind = kind_of r.state; reads = ranges r.reads; writes = entries r.writes }

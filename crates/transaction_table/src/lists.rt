@@ -1,5 +1,5 @@
 //! The lists of a transaction: at most 32 items each, in the record itself.
-ghost use Rattle.std.specs.Prelude.{◌≡◌, ◌≤◌, [], length};
+ghost use Rattle.std.specs.Prelude.{◌≡◌, ◌≤◌, length, OnErr};
 ghost use Rattle.std.specs.Bool.{⊤};
 
 use ledger::{Range, Write};
@@ -41,12 +41,12 @@ impl<T: Copy, const N: usize> Clone for Bounded<T, N> {
 impl<T: Copy, const N: usize> Copy for Bounded<T, N> {}
 
 impl<T: Copy, const N: usize> Bounded<T, N> {
-    ghost use Rattle.transaction_table.specs.Bounded.{held, push_room, pushed};
+    ghost use Rattle.transaction_table.specs.Bounded.{held, no_items, push_room, pushed};
 
     /// A list without items; until there are any, its places have this one.
     // Each instance has a `new` that gives it, so that the ledger's structs need no `Default`.
     pub fn empty(filler: T) -> Self
-        ensures { held result ≡ [] }
+        ensures { result ≡ no_items filler }
     {
         Bounded {
             len: 0,
@@ -65,6 +65,7 @@ impl<T: Copy, const N: usize> Bounded<T, N> {
     pub fn push(&mut self, item: T) -> Result<(), Full>
         ensures room { result ≡ push_room N (held self.old) }
         ensures after { held self.new ≡ pushed N (held self.old) item }
+        ensures refusal { OnErr result (self.new ≡ self.old) }
     {
         if self.len == N {
             return Err(Full);

@@ -1,15 +1,14 @@
-ghost use Rattle.std.specs.Prelude.{◌≡◌, true, false, if◌then◌else◌, nat_eq};
+ghost use Rattle.std.specs.Prelude.{◌≡◌, if◌then◌else◌, nat_eq, OnErr};
 ghost use Rattle.ledger.specs.Ledger.{written};
-ghost use Rattle.ledger.specs.Calls.{fresh};
-ghost use Rattle.transaction_table.specs.View.{taken, view, ranges, entries};
-ghost use Rattle.transaction_table.specs.Places.{holds_kind, state_of};
+ghost use Rattle.transaction_table.specs.View.{view, ranges, entries};
+ghost use Rattle.transaction_table.specs.Places.{holds_kind, state_of, new_record, free_record};
 ghost use Rattle.transaction_table.specs.Notes.{range_answer, join_answer, write_answer, admits, on_ok, noted_on, reads_with};
 
 use crate::lists::{ReadList, WriteList};
 use ledger::{Call, Fault, Kind, Range, Write};
 
 /// What a record is: free, or an active transaction of this kind.
-// The project asks for a record whose plain kind is one of these three, which `Option<Kind>` has not.
+// No `Option<Kind>`: what a record does with a call is decided by kind and call together, and a free place is a kind of its own.
 #[derive(Clone, Copy, PartialEq)]
 pub enum State {
     Free,
@@ -50,8 +49,7 @@ impl State {
 impl Record {
     /// A transaction that begins at this tick.
     pub fn new(start: u32, kind: Kind) -> Record
-        ensures active { taken result.state ≡ true }
-        ensures view { view result ≡ fresh start kind }
+        ensures { result ≡ new_record start kind }
     {
         Record {
             state: State::from(kind),
@@ -63,7 +61,7 @@ impl Record {
 
     /// A place that no transaction has.
     pub fn free() -> Record
-        ensures { taken result.state ≡ false }
+        ensures { result ≡ free_record }
     {
         Record {
             state: State::Free,
@@ -79,6 +77,7 @@ impl Record {
         ensures answer { result ≡ admits keys room (view self.old) call }
         ensures state { self.new.state ≡ self.old.state }
         ensures after { view self.new ≡ noted_on result (view self.old) call }
+        ensures refusal { OnErr result (self.new ≡ self.old) }
     {
         match (self.state, call) {
             (State::Updater, Call::Write(handle, key, value)) => {
@@ -105,6 +104,7 @@ impl Record {
         ensures writes { entries self.new.writes ≡
             on_ok result (written (entries self.old.writes) write.key write.value)
             (entries self.old.writes) }
+        ensures refusal { OnErr result (self.new ≡ self.old) }
     {
         if write.key >= keys {
             return Err(Fault::KeyOutside(write.key));
@@ -124,6 +124,7 @@ impl Record {
         ensures reads { ranges self.new.reads ≡
             (if nat_eq range.count 0 then ranges self.old.reads
             else reads_with (ranges self.old.reads) range.first range.count) }
+        ensures refusal { OnErr result (self.new ≡ self.old) }
     {
         // A range of no keys reads nothing, so nothing can clash with it.
         if range.count == 0 {
@@ -139,7 +140,6 @@ impl Record {
 fn readable(range: Range, keys: u16, room: usize) -> Result<(), Fault>
     ensures { result ≡ range_answer keys room range.first range.count }
 {
-    // One comparison, with a fault of its own, as in a validator: a function for it would be no plainer.
     if u32::from(range.first) + u32::from(range.count) > u32::from(keys) {
         return Err(Fault::KeyOutside(range.first));
     }

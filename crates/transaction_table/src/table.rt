@@ -1,9 +1,8 @@
-ghost use Rattle.std.specs.Prelude.{◌≡◌, ◌+◌, ◌-◌, ◌^◌, min, []};
+ghost use Rattle.std.specs.Prelude.{◌≡◌, ◌+◌, ◌-◌, ◌^◌, ◌<◌, min, position, IfSome, OnOk, OnErr};
 ghost use Rattle.ledger.specs.Ledger.{least_start};
 ghost use Rattle.transaction_table.specs.View.{active_of};
-ghost use Rattle.transaction_table.specs.Notes.{on_ok};
 ghost use Rattle.transaction_table.specs.Shuffle.{Shuffle};
-ghost use Rattle.transaction_table.specs.Places.{Located, Vacant, Released, begin_answer, begun_active, of_kind};
+ghost use Rattle.transaction_table.specs.Places.{is_free, has_handle, new_table, begin_answer, begun, begun_active, release_answer, released, of_kind};
 
 use crate::record::{Record, State};
 use ledger::{Fault, Kind};
@@ -20,9 +19,7 @@ pub struct Table {
 
 impl Table {
     pub fn new(last: u32) -> Table
-        ensures clock { result.clock ≡ 0 }
-        ensures last { result.last ≡ last }
-        ensures active { active_of result.records ≡ [] }
+        ensures { result ≡ new_table last }
     {
         Table {
             clock: 0,
@@ -33,14 +30,16 @@ impl Table {
 
     /// The place of the transaction with this handle.
     pub fn find(&self, handle: u32) -> Option<usize>
-        ensures { Located self.now.records handle result }
+        ensures place { result ≡ position (has_handle handle) self.now.records }
+        // What a caller that indexes by it has to know.
+        ensures within { IfSome result (λ place. place < 16) }
     {
         self.records.iter().position(|record| record.start == handle && record.state != State::Free)
     }
 
     /// A free place.
     fn vacant(&self) -> Option<usize>
-        ensures { Vacant self.now.records result }
+        ensures { result ≡ position is_free self.now.records }
     {
         self.records
             .iter()
@@ -50,8 +49,8 @@ impl Table {
     /// Draws the next tick, and puts a transaction that begins at it into a free place.
     pub fn begin(&mut self, kind: Kind) -> Result<u32, Fault>
         ensures answer { result ≡ begin_answer self.old }
-        ensures clock { self.new.clock ≡ on_ok result (self.old.clock + 1) self.old.clock }
-        ensures last { self.new.last ≡ self.old.last }
+        ensures after { OnOk result (self.new ≡ begun kind self.old) }
+        ensures refusal { OnErr result (self.new ≡ self.old) }
         ensures active { Shuffle (begun_active result kind self.old.records)
             (active_of self.new.records) }
     {
@@ -67,7 +66,9 @@ impl Table {
 
     /// Frees the place of the transaction with this handle, if there is one.
     pub fn release(&mut self, handle: u32) -> Result<(), Fault>
-        ensures { Released self.old handle result self.new }
+        ensures answer { result ≡ release_answer handle self.old }
+        ensures after { OnOk result (self.new ≡ released handle self.old) }
+        ensures refusal { OnErr result (self.new ≡ self.old) }
     {
         let slot = self.find(handle).ok_or(Fault::NoTransaction(handle))?;
         self.records[slot].state = State::Free;

@@ -1,5 +1,6 @@
 // Any of the calls, as a value.
-ghost use Rattle.engine.specs.Serves.{Serves, Idle, GoesOn, told};
+ghost use Rattle.std.specs.Prelude.{◌≡◌, IfOk, OnErr};
+ghost use Rattle.engine.specs.Serves.{Serves, Idle, GoesOn, OnRefused, told};
 
 use super::Engine;
 use ledger::{Answer, Call, Fault};
@@ -11,6 +12,7 @@ impl<S: VersionStore, V: Validator> Engine<S, V> {
     pub fn call(&mut self, call: Call, buffer: &mut [u64]) -> Answer
         ensures serves { Serves S.meaning V.meaning self.old self.new
             call buffer.old result buffer.new }
+        ensures refusal { OnRefused result ((self.new ≡ self.old) × (buffer.new ≡ buffer.old)) }
         ensures idle { Idle self.old self.new }
         ensures history { GoesOn S.meaning V.meaning self.old self.new
             call buffer.old result buffer.new }
@@ -22,6 +24,8 @@ impl<S: VersionStore, V: Validator> Engine<S, V> {
     fn try_call(&mut self, call: Call, buffer: &mut [u64]) -> Result<Answer, Fault>
         ensures serves { Serves S.meaning V.meaning self.old self.new
             call buffer.old (told (λ a. a) result) buffer.new }
+        ensures refusal { OnErr result ((self.new ≡ self.old) × (buffer.new ≡ buffer.old)) }
+        ensures accepted { IfOk result (λ answer. OnRefused answer ⊥) }
         ensures idle { Idle self.old self.new }
     {
         match call {

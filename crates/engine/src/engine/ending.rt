@@ -1,5 +1,5 @@
 // How transactions end: reclaim and commit.
-ghost use Rattle.std.specs.Prelude.{◌≡◌, ◌<◌};
+ghost use Rattle.std.specs.Prelude.{◌≡◌, ◌<◌, OnErr};
 ghost use Rattle.ledger.specs.declared.Call.TheVariants.{Reclaim, Commit};
 ghost use Rattle.ledger.specs.declared.Answer.TheVariants.{Reclaimed, Ended};
 ghost use Rattle.validation.specs.Meaning.{clash_answer};
@@ -15,7 +15,6 @@ use transaction_table::record::{Record, State};
 use validation::validator::Validator;
 use versions::store::VersionStore;
 
-// `Idle`, and that the table stays as it was, are facts of the step, and of no engine by itself.
 impl<S: VersionStore, V: Validator> Engine<S, V> {
     /// Removes the versions that no transaction reads, now or later, and answers how many.
     pub fn reclaim(&mut self) -> u16
@@ -38,6 +37,7 @@ impl<S: VersionStore, V: Validator> Engine<S, V> {
     pub fn commit(&mut self, handle: u32) -> Result<Verdict, Fault>
         ensures serves { ServesBare S.meaning V.meaning self.old self.new
             (Commit handle) (told Ended result) }
+        ensures refusal { OnErr result (self.new ≡ self.old) }
         ensures idle { Idle self.old self.new }
     {
         let slot = self.place(handle)?;
@@ -65,7 +65,7 @@ impl<S: VersionStore, V: Validator> Engine<S, V> {
         }
         let free = self.store.free();
         if writes.len() > usize::from(free) {
-            // `u16` has no `From<usize>`; a write list has 32 at most.
+            // A write list has 32 at most.
             return Verdict::Full(writes.len() as u16, free);
         }
         self.table.clock += 1;
@@ -90,7 +90,7 @@ impl<S: VersionStore, V: Validator> Engine<S, V> {
             (ranges updater.now.reads) }
     {
         let reads = updater.reads.as_slice();
-        // Not `find_map`: a loop that a match leaves by its label is a form that this project has to show.
+        // The search ends at the first clash, and is seen to end where the loop is left.
         let mut found = None;
         'entries: for range in reads {
             match self.clash_in(*range, updater.start) {

@@ -1,5 +1,5 @@
-ghost use Rattle.std.specs.Prelude.{◌≡◌, []};
-ghost use Rattle.transaction_table.specs.View.{ranges};
+ghost use Rattle.std.specs.Prelude.{◌≡◌, OnErr};
+ghost use Rattle.transaction_table.specs.View.{ranges, no_ranges};
 ghost use Rattle.transaction_table.specs.Notes.{join_room, reads_with};
 
 use super::{Bounded, Full, ReadList};
@@ -7,7 +7,7 @@ use ledger::Range;
 
 impl Bounded<Range, 32> {
     pub fn new() -> ReadList
-        ensures { ranges result ≡ [] }
+        ensures { result ≡ no_ranges }
     {
         Bounded::empty(Range { first: 0, count: 0 })
     }
@@ -16,6 +16,7 @@ impl Bounded<Range, 32> {
     pub fn join(&mut self, range: Range) -> Result<(), Full>
         ensures room { result ≡ join_room (ranges self.old) range }
         ensures after { ranges self.new ≡ reads_with (ranges self.old) range.first range.count }
+        ensures refusal { OnErr result (self.new ≡ self.old) }
     {
         if self.as_slice().contains(&range) {
             return Ok(());

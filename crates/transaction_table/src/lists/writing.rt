@@ -1,21 +1,21 @@
-ghost use Rattle.std.specs.Prelude.{◌≡◌, []};
+ghost use Rattle.std.specs.Prelude.{◌≡◌, position, OnErr};
 ghost use Rattle.ledger.specs.Ledger.{own_write};
-ghost use Rattle.transaction_table.specs.View.{entries};
-ghost use Rattle.transaction_table.specs.Notes.{Place, put_room, writes_with};
+ghost use Rattle.transaction_table.specs.View.{entries, no_writes};
+ghost use Rattle.transaction_table.specs.Notes.{writes_to, put_room, writes_with};
 
 use super::{Bounded, Full, WriteList};
 use ledger::Write;
 
 impl Bounded<Write, 32> {
     pub fn new() -> WriteList
-        ensures { entries result ≡ [] }
+        ensures { result ≡ no_writes }
     {
         Bounded::empty(Write { key: 0, value: 0 })
     }
 
     /// Where the key stands.
     fn place(&self, key: u16) -> Option<usize>
-        ensures { Place (entries self.now) key result }
+        ensures { result ≡ position (writes_to key) (entries self.now) }
     {
         self.as_slice().iter().position(|write| write.key == key)
     }
@@ -34,6 +34,7 @@ impl Bounded<Write, 32> {
     pub fn put(&mut self, write: Write) -> Result<(), Full>
         ensures room { result ≡ put_room (entries self.old) write.key }
         ensures after { entries self.new ≡ writes_with (entries self.old) write.key write.value }
+        ensures refusal { OnErr result (self.new ≡ self.old) }
     {
         if let Some(i) = self.place(write.key) {
             self.items[i] = write;

@@ -1,11 +1,14 @@
-use Rattle.std.proofs.Common.{◌≡◌, length, rules}
+use Rattle.std.proofs.Common.{◌≡◌, ◌<◌, length, IfSome, position, subst, rules}
 use borrow.Author.Tests.{tests}
-use Rattle.std.proofs.lemmas.Iterator.{YieldsList-from_slice, IsFirst-from_position}
-use Rattle.transaction_table.proofs.Slots.{first_located, Has, Lacks}
+use Rattle.std.proofs.lemmas.Iterator.{YieldsList-from_slice}
+use Rattle.std.proofs.lemmas.Iterator.Search.{position_from_yields_List}
+use Rattle.transaction_table.specs.Places.{has_handle, free_record}
+use Rattle.transaction_table.proofs.Searches.{position_within}
 use Rattle.transaction_table.proofs.table.Table.find.Goals as goal
 
 pub returns : goal.returns
 returns c =
     let rs = c.args.self.now.records in
     let n : length rs ≡ 16 = search rules in
-    first_located rs c.args.handle c.position.result n (IsFirst-from_position _ _ _ (Has c.args.handle) (Lacks c.args.handle) c.position.ensures.ran (YieldsList-from_slice rs cc) (λ x q k. search (rules, tests)) (λ x q k. search (rules, tests)))
+    let e : c.position.result ≡ position (has_handle c.args.handle) rs = position_from_yields_List (has_handle c.args.handle) _ _ c.position.result c.position.ensures.ran (YieldsList-from_slice rs cc) (λ x b q k. search (rules, tests)) in
+    record { place = e; within = subst (λ k. IfSome c.position.result (λ place. place < k)) n (position_within (has_handle c.args.handle) rs free_record c.position.result e) }
