@@ -1,1 +1,6 @@
+pub mod Answering
+pub mod Pieces
+pub mod Programs
+mod Reading
+pub mod Running
 mod Spacing

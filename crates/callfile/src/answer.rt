@@ -1,43 +1,30 @@
-ghost use Rattle.std.specs.Prelude.{◌≡◌};
+ghost use Rattle.std.specs.Prelude.{◌≡◌, [], ◌∷◌, None, Err, OnErr};
 ghost use Rattle.records.specs.Format.{decoded};
-ghost use Rattle.callfile.specs.Answers.{values_of, done_by, Answered};
+ghost use Rattle.callfile.specs.declared.fault.CallFault.TheVariants.{Malformed};
+ghost use Rattle.callfile.specs.Answers.{values_of, done_by};
+ghost use Rattle.callfile.specs.Runs.{Results, Answers};
 
 use crate::fault::CallFault;
-use crate::line::{Done, Line};
+use crate::line::Done;
 use engine::engine::Engine;
 use ledger::{Answer, Call, Fault};
 use records::codec::decode;
 use validation::validator::Validator;
 use versions::store::VersionStore;
 
-/// The line that answers a record, with the buffer that its call was lent.
-pub fn answer<'a, S: VersionStore, V: Validator>(
-    bytes: &[u8],
+/// Answers a record with this number: makes the call that it asks for, lent the buffer.
+/// A malformed record is refused by its number.
+pub fn answer<S: VersionStore, V: Validator>(
     number: u64,
-    engine: &mut Engine<S, V>,
-    buffer: &'a mut [u64],
-) -> Line<'a>
-    ensures number { result.number ≡ number }
-    ensures result { Answered S.meaning V.meaning engine.old engine.new (decoded bytes.now)
-        number buffer.old result.result result.buffer.now }
-{
-    let result = perform(bytes, number, engine, buffer);
-    Line {
-        number,
-        result,
-        buffer,
-    }
-}
-
-/// Makes the call that a record asks for.
-fn perform<S: VersionStore, V: Validator>(
     bytes: &[u8],
-    number: u64,
     engine: &mut Engine<S, V>,
     buffer: &mut [u64],
 ) -> Result<Done, CallFault>
-    ensures { Answered S.meaning V.meaning engine.old engine.new (decoded bytes.now)
-        number buffer.old result buffer.new }
+    ensures malformed { decoded bytes.now ≡ None → result ≡ Err (Malformed number) }
+    ensures result { Results S.meaning V.meaning engine.old number bytes.now buffer.old result }
+    ensures refusal { OnErr result ((engine.new ≡ engine.old) × (buffer.new ≡ buffer.old)) }
+    ensures answers { Answers S.meaning V.meaning engine.old engine.new number
+        (bytes.now ∷ []) buffer.old buffer.new }
 {
     let call = decode(bytes).ok_or(CallFault::Malformed(number))?;
     let answer = engine.call(call, buffer);

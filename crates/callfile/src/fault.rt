@@ -5,7 +5,7 @@ ghost use Rattle.callfile.specs.Faults.{report};
 use ledger::Fault;
 
 /// Why a record of a call file is refused.
-#[derive(Clone, Copy, PartialEq)]
+#[derive(Clone, Copy, PartialEq, Eq)]
 pub enum CallFault {
     /// The record with this number is malformed.
     Malformed(u64),
@@ -13,7 +13,7 @@ pub enum CallFault {
     Engine(Fault),
 }
 
-// The three that a fault of the ledger answers too: one that was carried up is asked in its turn. No code takes any fault.
+// A fault that was carried up is asked in its turn.
 impl CallFault {
     pub fn layer(self) -> u8
         ensures { result ≡ (report self).layer }

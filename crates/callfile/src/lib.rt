@@ -4,6 +4,7 @@
 #![tactic(auto)]
 
 pub mod answer;
+pub mod examples;
 pub mod fault;
 pub mod line;
 pub mod sizes;

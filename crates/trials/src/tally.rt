@@ -1,5 +1,5 @@
-ghost use Rattle.std.specs.Prelude.{◌≡◌};
-ghost use Rattle.trials.specs.Tally.{AddsUp};
+ghost use Rattle.std.specs.Prelude.{◌≡◌, Some};
+ghost use Rattle.trials.specs.Tally.{added, tally_text};
 
 use std::fmt;
 use std::ops::AddAssign;
@@ -23,7 +23,7 @@ impl Tally {
 }
 
 impl AddAssign for Tally {
-    ghost add_assign_gives = { AddsUp };
+    ghost add_assign_gives = { λ old other new. new ≡ added old other };
 
     fn add_assign(&mut self, other: Tally) {
         self.runs = self.runs.saturating_add(other.runs);
@@ -33,16 +33,17 @@ impl AddAssign for Tally {
 }
 
 impl fmt::Display for Tally {
+    ghost output = { λ t. Some (tally_text t) };
+
     fn fmt<W: fmt::Write>(&self, f: &mut fmt::Formatter<W>) -> fmt::Result {
         let Tally {
             runs,
             lines,
             differing,
         } = *self;
-        write!(f, "{runs} runs, {lines} lines")?;
-        if differing > 0 {
-            write!(f, ", {differing} runs differ")?;
+        match differing {
+            0 => write!(f, "{runs} runs, {lines} lines"),
+            _ => write!(f, "{runs} runs, {lines} lines, {differing} runs differ"),
         }
-        Ok(())
     }
 }

@@ -1,9 +1,12 @@
-ghost use Rattle.std.specs.Prelude.{◌≡◌, IfOk, IfErr, IsSomeAnd, MatchOption, MatchResult, Ok, Err, if◌then◌else◌, nat_eq};
+ghost use Rattle.std.specs.Prelude.{◌≡◌, IfOk, IfErr, IsSomeAnd, MatchOption, MatchResult, Ok, Err, max};
+ghost use Rattle.std.specs.Int.{div_ceil};
 ghost use Rattle.std.specs.IoError.{error_kind};
 ghost use Rattle.std.specs.declared.io.ErrorKind.TheVariants.{InvalidData};
 ghost use Rattle.std.specs.declared.num.ParseIntError.{ParseIntError};
 ghost use Rattle.trials.specs.declared.trial.SettingError.TheVariants.{Short, Number};
 ghost use Rattle.trials.specs.Setting.{Gives, GivesNone};
+ghost use Rattle.trials.specs.Runs.{tally_over, log_made, chain_made, tables_tally, lists_tally, pairs_tally};
+ghost use Rattle.trials.specs.Tally.{run_tally};
 
 use crate::tally::Tally;
 use callfile::stream::run;
@@ -12,6 +15,7 @@ use chain::store::ChainStore;
 use engine::engine::Engine;
 use std::alloc::Global;
 use std::io;
+use std::io::{BufReader, BufWriter};
 use std::num::ParseIntError;
 use std::str::FromStr;
 use validation::entry::Entry;
@@ -91,7 +95,9 @@ fn number<N: FromStr<Err = ParseIntError> + Drop>(word: Option<&str>) -> Result<
 }
 
 impl Setting {
-    fn granules(self) -> usize {
+    fn granules(self) -> usize
+        ensures { result ≡ div_ceil self.keys (max self.grain 1) }
+    {
         usize::from(self.keys).div_ceil(usize::from(self.grain.max(1)))
     }
 }
@@ -108,24 +114,44 @@ pub struct Trial<'a> {
 impl Trial<'_> {
     /// Over every pair that can have the setting's granules: in a recent list each key is its own.
     pub fn over_pairs(self) -> io::Result<Tally>
-        ensures { IfOk result (λ t. t.runs ≡ (if nat_eq self.entry.setting.grain 1 then 4 else 2)) }
+        ensures { IfOk result (λ t. t ≡ pairs_tally self.entry.setting
+            self.entry.calls.now self.entry.expected.now) }
     {
-        let Setting { keys, grain, .. } = self.setting;
-        let mut tally = Tally::new();
-        let mut stamps = vec![in self.heap; 0u32; self.setting.granules()]?;
-        tally += self.over_log(StampTable::make(keys, grain, stamps.as_mut_slice()))?;
-        tally += self.over_chain(StampTable::make(keys, grain, stamps.as_mut_slice()))?;
-        if grain == 1 {
-            let mut entries = vec![in self.heap; Entry::CLEARED; usize::from(keys)]?;
-            tally += self.over_log(RecentList::make(keys, entries.as_mut_slice()))?;
-            tally += self.over_chain(RecentList::make(keys, entries.as_mut_slice()))?;
+        let mut tally = self.over_tables()?;
+        if self.setting.grain != 1 {
+            return Ok(tally);
         }
+        tally += self.over_lists()?;
         Ok(tally)
     }
 
-    // The two differ in the memory that they lend. Each tells one run: a fact of what it did.
+    fn over_tables(self) -> io::Result<Tally>
+        ensures { IfOk result (λ t. t ≡ tables_tally self.entry.setting
+            self.entry.calls.now self.entry.expected.now) }
+    {
+        let Setting { keys, grain, .. } = self.setting;
+        let mut stamps = vec![in self.heap; 0u32; self.setting.granules()]?;
+        let mut tally = self.over_log(StampTable::make(keys, grain, stamps.as_mut_slice()))?;
+        tally += self.over_chain(StampTable::make(keys, grain, stamps.as_mut_slice()))?;
+        Ok(tally)
+    }
+
+    fn over_lists(self) -> io::Result<Tally>
+        ensures { IfOk result (λ t. t ≡ lists_tally self.entry.setting
+            self.entry.calls.now self.entry.expected.now) }
+    {
+        let keys = self.setting.keys;
+        let mut entries = vec![in self.heap; Entry::CLEARED; usize::from(keys)]?;
+        let mut tally = self.over_log(RecentList::make(keys, entries.as_mut_slice()))?;
+        tally += self.over_chain(RecentList::make(keys, entries.as_mut_slice()))?;
+        Ok(tally)
+    }
+
+    // The two differ in the memory that they lend.
     fn over_log<V: Validator + Drop>(self, validator: V) -> io::Result<Tally>
-        ensures { IfOk result (λ t. t.runs ≡ 1) }
+        ensures { IfOk result (λ t. t ≡ tally_over self.entry.setting
+            self.entry.calls.now self.entry.expected.now
+            (log_made self.entry.setting) (V.meaning validator)) }
     {
         let Setting { keys, cells, .. } = self.setting;
         let mut cells = vec![in self.heap; Version::CLEARED; cells]?;
@@ -133,7 +159,9 @@ impl Trial<'_> {
     }
 
     fn over_chain<V: Validator + Drop>(self, validator: V) -> io::Result<Tally>
-        ensures { IfOk result (λ t. t.runs ≡ 1) }
+        ensures { IfOk result (λ t. t ≡ tally_over self.entry.setting
+            self.entry.calls.now self.entry.expected.now
+            (chain_made self.entry.setting) (V.meaning validator)) }
     {
         let Setting { keys, cells, .. } = self.setting;
         let mut heads = vec![in self.heap; None; usize::from(keys)]?;
@@ -147,32 +175,33 @@ impl Trial<'_> {
         store: S,
         validator: V,
     ) -> io::Result<Tally>
-        ensures { IfOk result (λ t. t.runs ≡ 1) }
+        ensures { IfOk result (λ t. t ≡ tally_over self.entry.setting
+            self.entry.calls.now self.entry.expected.now
+            (S.meaning store) (V.meaning validator)) }
     {
         let mut buffer = vec![in self.heap; 0u64; self.setting.places]?;
-        let mut lines = Vec::new(self.heap);
-        let engine = Engine::make(self.setting.last, store, validator);
+        let mut input = BufReader::new(self.heap, self.calls)?;
+        let mut output = BufWriter::new(self.heap, Vec::new(self.heap))?;
+        let mut engine = Engine::make(self.setting.last, store, validator);
         run(
             self.heap,
-            engine,
+            &mut engine,
             buffer.as_mut_slice(),
-            self.calls,
-            &mut lines,
+            &mut input,
+            &mut output,
         )?;
-        Ok(compared(self.expected, lines.as_slice()))
+        Ok(compared(self.expected, output.get_ref().as_slice()))
     }
 }
 
 /// The tally of one run.
 fn compared(expected: &[u8], lines: &[u8]) -> Tally
-    ensures one { result.runs ≡ 1 }
-    ensures alike { lines.now ≡ expected.now → result.differing ≡ 0 }
-    ensures told { result.differing ≡ 0 → lines.now ≡ expected.now }
+    ensures { result ≡ run_tally expected.now lines.now }
 {
     let ends = expected.iter().filter(|&&byte| byte == b'\n');
     Tally {
         runs: 1,
-        // Rust has no `From<usize> for u64`, and a count cannot fail to fit.
+        // A count fits 64 bits.
         lines: ends.count() as u64,
         differing: u64::from(lines != expected),
     }

@@ -1,0 +1,13 @@
+-- What is written so far is the front of the text.
+use Rattle.std.proofs.Common.{◌-◌, ◌≤◌, length, take}
+use Rattle.std.specs.Io.KnownBytes.{Appends}
+use Rattle.callfile.proofs.stream.write_text.Given as goal
+
+abbrev pub invariant-loop-written : goal.invariant-loop-written
+invariant-loop-written g l = record {
+  within : l.written ≤ length l.text;
+  front : Appends (g.W.Write.contents l.initial.output) (g.W.Write.contents l.output) (take l.written l.text);
+}
+
+abbrev pub decreases-loop-written : goal.decreases-loop-written
+decreases-loop-written g l = length l.text - l.written

@@ -1,0 +1,69 @@
+-- The answer to a call file: a line for each of its records, and what its calls leave.
+use Rattle.std.specs.Prelude.{ℕ, zero, suc, ◌+◌, List, [], ◌∷◌, ◌++◌, Some, None, Err, codes, Option, Result}
+use Rattle.std.specs.List.{onto_first}
+use Rattle.ledger.specs.declared.Call.{Call}
+use Rattle.ledger.specs.Ledger.{Ledger}
+use Rattle.ledger.specs.Calls.{step}
+use Rattle.ledger.specs.History.{Made}
+use Rattle.records.specs.Format.{decoded}
+use Rattle.engine.specs.Serves.{made}
+use Rattle.callfile.specs.declared.fault.CallFault.{CallFault}
+use Rattle.callfile.specs.declared.fault.CallFault.TheVariants.{Malformed}
+use Rattle.callfile.specs.declared.line.Done.{Done}
+use Rattle.callfile.specs.Lines.{line_text}
+use Rattle.callfile.specs.Answers.{done_by, carried}
+
+-- Records
+
+-- the bytes cut behind the next n, and then behind every 20
+abbrev pub pieces : ℕ → List ℕ → List (List ℕ)
+pieces n [] = []
+pieces zero (x ∷ xs) = [] ∷ onto_first x (pieces 19 xs)
+pieces (suc n) (x ∷ xs) = onto_first x (pieces n xs)
+
+-- the records of a file: 20 bytes each, the last one perhaps shorter
+abbrev pub records_of : List ℕ → List (List ℕ)
+records_of bytes = pieces 20 bytes
+
+-- Answers
+
+-- what comes of one record: its result, the buffer and the ledger afterwards, and the calls made
+pub record RecordAnswer : Type 0 where
+  pub result : Result Done CallFault
+  pub buffer : List ℕ
+  pub ledger : Ledger
+  pub calls : List Made
+
+-- record n: a call is the ledger's next step, lent the buffer; a malformed record leaves both alone
+abbrev pub record_answer : ℕ → Ledger → List ℕ → Option Call → RecordAnswer
+record_answer n l b None = record { result = Err (Malformed n); buffer = b; ledger = l; calls = [] }
+record_answer n l b (Some c) =
+    let o = step l c b in
+    record { result = carried (done_by c o.answer); buffer = o.buffer; ledger = o.ledger; calls = made c b o.answer o.buffer ∷ [] }
+
+-- what comes of a file: its lines, the buffer and the ledger afterwards, and the calls made, newest first
+pub record FileAnswer : Type 0 where
+  pub lines : List ℕ
+  pub buffer : List ℕ
+  pub ledger : Ledger
+  pub calls : List Made
+
+-- record n was answered, and then the rest of the file; a line is the text of an answer and a line feed
+abbrev pub preceded : ℕ → RecordAnswer → FileAnswer → FileAnswer
+preceded n a rest = record {
+  lines = line_text n a.result a.buffer ++ (codes "\n" ++ rest.lines);
+  buffer = rest.buffer;
+  ledger = rest.ledger;
+  calls = rest.calls ++ a.calls;
+}
+
+-- the records from number n on, each lent the buffer as the one before left it
+abbrev pub answer_from : ℕ → Ledger → List ℕ → List (List ℕ) → FileAnswer
+answer_from n l b [] = record { lines = []; buffer = b; ledger = l; calls = [] }
+answer_from n l b (r ∷ rs) =
+    let a = record_answer n l b (decoded r) in
+    preceded n a (answer_from (n + 1) a.ledger a.buffer rs)
+
+-- the answer to a file, from a ledger and a buffer
+abbrev pub file_answer : Ledger → List ℕ → List ℕ → FileAnswer
+file_answer l b bytes = answer_from 1 l b (records_of bytes)

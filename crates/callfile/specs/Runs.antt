@@ -1,0 +1,60 @@
+-- What a run of a call file makes of an engine, a buffer, a reader and a writer.
+use Rattle.std.specs.Prelude.{◌≡◌, ℕ, List, ◌++◌, length, take, IfSome, Option, Result}
+use Rattle.std.specs.Io.{StartsWith}
+use Rattle.std.specs.Io.KnownBytes.{Appends, Consumes}
+use Rattle.ledger.specs.Ledger.{Ledger, Limits}
+use Rattle.ledger.specs.History.{Made, after}
+use Rattle.versions.specs.Meaning.{Meaning as Store}
+use Rattle.validation.specs.Meaning.{Meaning as Stamps}
+use Rattle.engine.specs.declared.engine.Engine.{Engine}
+use Rattle.engine.specs.Parts.{FitsEngine}
+use Rattle.engine.specs.Serves.{Led, Lawfully, Idle}
+use Rattle.records.specs.Format.{decoded}
+use Rattle.callfile.specs.declared.fault.CallFault.{CallFault}
+use Rattle.callfile.specs.declared.line.Done.{Done}
+use Rattle.callfile.specs.Files.{records_of, record_answer, answer_from}
+
+-- record n has this result, whatever ledger fits the engine before
+abbrev pub Results : {S V : Type 0} → (S → Store) → (V → Stamps) → Engine S V → ℕ → List ℕ → List ℕ → Result Done CallFault → Type 0
+Results m p e n bytes b r = (l : Ledger) → FitsEngine m p l e → r ≡ (record_answer n l b (decoded bytes)).result
+
+-- From e to e' the records rs were answered, from number n on; b was in the buffer before, b' after. m and p are the meanings of the store and of the validator.
+pub record Answers {S V : Type 0} (m : S → Store) (p : V → Stamps) (e e' : Engine S V) (n : ℕ) (rs : List (List ℕ)) (b b' : List ℕ) : Type 0 where
+  -- each ledger that fits the engine tells the buffer, and the ledger afterwards fits the engine afterwards
+  pub buffer : (l : Ledger) → FitsEngine m p l e → b' ≡ (answer_from n l b rs).buffer
+  pub ledger : (l : Ledger) → FitsEngine m p l e → FitsEngine m p (answer_from n l b rs).ledger e'
+  -- each history that led to the engine goes on with exactly these calls, leads to the engine afterwards, and is lawful
+  pub history : (k : Limits) (ms : List Made) → Led m p k ms e → Lawfully m p k ((answer_from n (after k ms) b rs).calls ++ ms) e'
+  -- an engine from a refused set-up touches neither store nor validator
+  pub idle : Idle e e'
+
+-- known bytes grow by the lines of the records rs, from number n on, whatever ledger fits the engine before
+abbrev pub AppendsLines : {S V : Type 0} → (S → Store) → (V → Stamps) → Engine S V → ℕ → List (List ℕ) → List ℕ → Option (List ℕ) → Option (List ℕ) → Type 0
+AppendsLines m p e n rs b old new = (l : Ledger) → FitsEngine m p l e → Appends old new (answer_from n l b rs).lines
+
+-- known bytes grow by a beginning of a text
+abbrev pub AppendsSome : Option (List ℕ) → Option (List ℕ) → List ℕ → Type 0
+AppendsSome old new text = (bs : List ℕ) × Appends old new bs × StartsWith text bs
+
+-- the same of those lines
+abbrev pub AppendsSomeLines : {S V : Type 0} → (S → Store) → (V → Stamps) → Engine S V → ℕ → List (List ℕ) → List ℕ → Option (List ℕ) → Option (List ℕ) → Type 0
+AppendsSomeLines m p e n rs b old new = (l : Ledger) → FitsEngine m p l e → AppendsSome old new (answer_from n l b rs).lines
+
+-- known bytes lose some at their front
+abbrev pub ConsumesSome : Option (List ℕ) → Option (List ℕ) → Type 0
+ConsumesSome old new = (bs : List ℕ) × Consumes old new bs
+
+-- From e to e' a file was answered; what was written before was old, and is new.
+pub record AnswersFile {S V : Type 0} (m : S → Store) (p : V → Stamps) (e e' : Engine S V) (b b' : List ℕ) (old new : Option (List ℕ)) (bytes : List ℕ) : Type 0 where
+  pub answers : Answers m p e e' 1 (records_of bytes) b b'
+  -- its lines were written, and nothing else
+  pub lines : AppendsLines m p e 1 (records_of bytes) b old new
+
+-- From e to e' the first of the records left, the next of which is number n, were answered, and then an error came.
+pub record Stops {S V : Type 0} (m : S → Store) (p : V → Stamps) (e e' : Engine S V) (n : ℕ) (b b' : List ℕ) (left left' old new : Option (List ℕ)) : Type 0 where
+  pub done : List (List ℕ)
+  pub first : IfSome left (λ bytes. take (length done) (records_of bytes) ≡ done)
+  pub taken : ConsumesSome left left'
+  pub answers : Answers m p e e' n done b b'
+  -- what was written is a beginning of their lines
+  pub lines : AppendsSomeLines m p e n done b old new
