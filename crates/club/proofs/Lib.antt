@@ -1,6 +1,8 @@
-mod Makings
+mod Agreements
 mod Means
 mod Moments
+mod Performances
 mod Recalculations
 mod Texts
 mod Words
+pub mod Afternoons

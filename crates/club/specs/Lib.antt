@@ -1,6 +1,8 @@
+pub mod Afternoons
 pub mod Events
 pub mod Indexes
 pub mod Lines
 pub mod Moments
+pub mod Procedures
 pub mod Texts
 pub mod Transactions

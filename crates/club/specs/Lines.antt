@@ -1,11 +1,17 @@
 -- The lines of text that tell of a club's afternoon: a word for the event, and its numbers, a space between.
-use Rattle.std.specs.Prelude.{ℕ, ◌+◌, ◌-◌, ◌*◌, Bool, true, false, if◌then◌else◌, ◌&&◌, List, [], ◌∷◌, Some, None, codes, Option, Ok, Err, Result, ◌==◌, nat_le}
+use Rattle.std.specs.Prelude.{ℕ, ◌+◌, ◌-◌, ◌*◌, Bool, true, false, if◌then◌else◌, ◌&&◌, List, [], ◌∷◌, length, take, Some, None, codes, Option, Ok, Err, Result, ◌==◌, nat_le}
 use Rattle.std.specs.Bool.{⊤}
+use Rattle.std.specs.Io.BufRead.{ends_with_byte}
+use Rattle.std.specs.Str.Lines.{strip_carriage_return}
 use Rattle.std.specs.Option.{option_map}
 use Rattle.club.specs.declared.event.Event.{Event}
 use Rattle.club.specs.declared.line.Verb.{Verb}
 use Rattle.club.specs.declared.line.Verb.TheVariants.{Card as ToPost, Correct as ToCorrect, Recalculate as ToRecalculate, Finish as ToFinish, List as ToList, Report as ToReport, Show as ToShow, Close as ToClose, CleanUp as ToClean}
 use Rattle.club.specs.declared.event.Event.TheVariants.{Card, Correction, Recalculation, Finish, List as ListNow, Report, Show, Close, CleanUp}
+
+-- a line's text: without its line feed, and without a carriage return before that
+abbrev pub text_of : List ℕ → List ℕ
+text_of l = if ends_with_byte 10 l then strip_carriage_return (take (length l - 1) l) else l
 
 -- what stands before the first space
 abbrev pub word : List ℕ → List ℕ

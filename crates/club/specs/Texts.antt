@@ -5,6 +5,8 @@ use Rattle.ledger.specs.Faults.{reported, report_text}
 use Rattle.ledger.specs.declared.Fault.{Fault}
 use Rattle.ledger.specs.declared.Verdict.{Verdict}
 use Rattle.ledger.specs.declared.Verdict.TheVariants.{Closed, Restart, Spent, Full, Committed}
+use Rattle.callfile.specs.declared.fault.CallFault.{CallFault}
+use Rattle.callfile.specs.Faults.{report}
 use Rattle.callfile.specs.Lines.{spaced}
 use Rattle.club.specs.declared.said.Recalculation.{Recalculation}
 use Rattle.club.specs.declared.said.Redone.{Redone}
@@ -54,3 +56,8 @@ said_text (Restarted k s r) = verdict_text (Restart k s) ++ (codes "; again: " +
 said_text (Values xs) = codes "values" ++ spaced xs
 said_text (Report h) = codes "report " ++ (decimal h ++ codes " opened")
 said_text (Removed n) = decimal n ++ codes " versions removed"
+
+-- an answer to a line: what was said, or the refusal
+abbrev pub answer_text : Result Said CallFault → List ℕ
+answer_text (Ok s) = said_text s
+answer_text (Err f) = codes "refused " ++ report_text (report f)

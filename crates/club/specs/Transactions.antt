@@ -1,87 +1,95 @@
--- Which calls the transactions of a club's afternoon make, and what they answer.
-use Rattle.std.specs.Prelude.{◌≡◌, ℕ, List, [], ◌∷◌, ◌++◌, replicate, slice_index, take, Ok, Err, Result}
+-- The transactions that a club's events are made of, as procedures.
+use Rattle.std.specs.Prelude.{ℕ, List, [], ◌∷◌, replicate, slice_index, take, Ok, Err, Result}
+use Rattle.std.specs.Result.{result_map_both}
 use Rattle.ledger.specs.declared.Kind.TheVariants.{Reader, Updater}
-use Rattle.ledger.specs.declared.Call.TheVariants.{Begin, Read, Write, Commit, Abort}
 use Rattle.ledger.specs.declared.Fault.{Fault}
 use Rattle.ledger.specs.declared.Verdict.{Verdict}
-use Rattle.ledger.specs.declared.Answer.{Answer}
-use Rattle.ledger.specs.declared.Answer.TheVariants.{Began, Read as ReadDone, Wrote, Ended, Refused}
-use Rattle.ledger.specs.Ledger.{Limits}
-use Rattle.ledger.specs.History.{Made}
-use Rattle.versions.specs.Meaning.{Meaning as Store}
-use Rattle.validation.specs.Meaning.{Meaning as Stamps}
-use Rattle.engine.specs.declared.engine.Engine.{Engine}
-use Rattle.engine.specs.Serves.{Led, Lawfully, made, told}
 use Rattle.club.specs.declared.said.Recalculation.{Recalculation}
 use Rattle.club.specs.declared.said.Redone.{Redone}
 use Rattle.club.specs.declared.said.Said.{Said}
 use Rattle.club.specs.declared.said.Said.TheVariants.{Correction, Values}
 use Rattle.club.specs.Indexes.{index}
+use Rattle.club.specs.Procedures.{Procedure, pure, ◌>>=◌, begin, read, write, commit, abort}
 
--- these calls lead from e to e', the newest first: every history that led to e goes on with them, leads to e' and is lawful
-pub record Leads {S V : Type 0} (m : S → Store) (p : V → Stamps) (e e' : Engine S V) (ns : List Made) : Type 0 where
-  pub on : (n : Limits) (ms : List Made) → Led m p n ms e → Lawfully m p n (ns ++ ms) e'
+-- a refusal is the answer, and a value is gone on with
+abbrev pub and_then : {X Y : Type 0} → Result X Fault → (X → Procedure (Result Y Fault)) → Procedure (Result Y Fault)
+and_then (Ok x) f = f x
+and_then (Err e) f = pure (Err e)
 
--- from e to e' calls were made of which P holds
-pub record Makes {S V : Type 0} (m : S → Store) (p : V → Stamps) (e e' : Engine S V) (P : List Made → Type 0) : Type 0 where
-  pub calls : List Made
-  pub are : P calls
-  pub lead : Leads m p e e' calls
+-- what is said of a result; a refusal is told as it is
+abbrev pub said : {X : Type 0} → (X → Said) → Result X Fault → Result Said Fault
+said f r = result_map_both f (λ e. e) r
 
--- Begin an updater and read n keys from k on; where the read is refused, abort. b is the buffer before, b' after.
-pub data Opened (k n : ℕ) (b b' : List ℕ) : Result ℕ Fault → List Made → Type 0 where
-  not_begun : (f : Fault) → b' ≡ b → Opened k n b b' (Err f) (made (Begin Updater) [] (Refused f) [] ∷ [])
-  not_read : (h : ℕ) (f : Fault) (a : Answer)
-      → Opened k n b b' (Err f) (made (Abort h) [] a [] ∷ made (Read h k n) b (Refused f) b' ∷ made (Begin Updater) [] (Began h) [] ∷ [])
-  opened : (h : ℕ)
-      → Opened k n b b' (Ok h) (made (Read h k n) b ReadDone b' ∷ made (Begin Updater) [] (Began h) [] ∷ [])
+-- where a call under h is refused, h is aborted, and the refusal is the answer
+abbrev pub or_abort : {X : Type 0} → ℕ → Result (Unit {0}) Fault → Procedure (Result X Fault) → Procedure (Result X Fault)
+or_abort h (Ok u) f = f
+or_abort h (Err e) f = do
+  _ ← abort h
+  pure (Err e)
 
--- Write x to k and commit; where the write is refused, abort.
-pub data Finished (h k x : ℕ) : Result Verdict Fault → List Made → Type 0 where
-  not_written : (f : Fault) (a : Answer)
-      → Finished h k x (Err f) (made (Abort h) [] a [] ∷ made (Write h k x) [] (Refused f) [] ∷ [])
-  finished : (r : Result Verdict Fault)
-      → Finished h k x r (made (Commit h) [] (told Ended r) [] ∷ made (Write h k x) [] Wrote [] ∷ [])
+-- once begun: the read under the handle
+abbrev pub opened_by : Result ℕ Fault → ℕ → ℕ → List ℕ → Procedure (Result ℕ Fault × List ℕ)
+opened_by (Err e) k n b = pure (Err e, b)
+opened_by (Ok h) k n b = do
+  seen ← read h k n b
+  end ← or_abort h seen.0 (pure (Ok h))
+  pure (end, seen.1)
+
+-- Begin an updater and read n keys from k on, with the buffer b: the handle, and what is left in the buffer.
+abbrev pub opened : ℕ → ℕ → List ℕ → Procedure (Result ℕ Fault × List ℕ)
+opened k n b = do
+  begun ← begin Updater
+  opened_by begun k n b
+
+-- Write x to k and commit.
+abbrev pub finished : ℕ → ℕ → ℕ → Procedure (Result Verdict Fault)
+finished h k x = do
+  wrote ← write h k x
+  or_abort h wrote (commit h)
 
 -- Begin an updater, write x to k and commit.
-pub data Posted (k x : ℕ) : Result Verdict Fault → List Made → Type 0 where
-  not_posted : (f : Fault) → Posted k x (Err f) (made (Begin Updater) [] (Refused f) [] ∷ [])
-  posted : (h : ℕ) (r : Result Verdict Fault) (ns : List Made) → Finished h k x r ns
-      → Posted k x r (ns ++ made (Begin Updater) [] (Began h) [] ∷ [])
+abbrev pub posted : ℕ → ℕ → Procedure (Result Verdict Fault)
+posted k x = do
+  begun ← begin Updater
+  and_then begun λ h. finished h k x
 
--- Read a key's value and write x in its place: open it, and finish it.
-pub data Corrected (k x : ℕ) : Result Said Fault → List Made → Type 0 where
-  not_opened : (f : Fault) (b : List ℕ) (ns : List Made) → Opened k 1 (0 ∷ []) b (Err f) ns → Corrected k x (Err f) ns
-  corrected : (h : ℕ) (b : List ℕ) (r : Result Verdict Fault) (ns ms : List Made)
-      → Opened k 1 (0 ∷ []) b (Ok h) ns → Finished h k x r ms
-      → Corrected k x (Ok (Correction k x (slice_index b 0) r)) (ms ++ ns)
+-- Read a key's value and write x in its place.
+abbrev pub corrected : ℕ → ℕ → Procedure (Result Said Fault)
+corrected k x = do
+  old ← opened k 1 (0 ∷ [])
+  and_then old.0 λ h. do
+    end ← finished h k x
+    pure (Ok (Correction k x (slice_index old.1 0) end))
 
 -- what a buffer for all the club's keys holds at first
 abbrev pub blank : List ℕ
 blank = replicate 8 0
 
--- Open n rounds from k on, and work out the index that is to be written to x: that of the values read, b.
-pub data WorkedOut (k n x : ℕ) : Result Recalculation Fault → List Made → Type 0 where
-  not_worked : (f : Fault) (b : List ℕ) (ns : List Made) → Opened k n blank b (Err f) ns → WorkedOut k n x (Err f) ns
-  worked : (h : ℕ) (b : List ℕ) (ns : List Made) → Opened k n blank b (Ok h) ns
-      → WorkedOut k n x (Ok (record { handle = h; first = k; count = n; index = x; value = index (take n b) })) ns
+-- Open n rounds from k on, and work out the index that is to be written to x.
+abbrev pub worked_out : ℕ → ℕ → ℕ → Procedure (Result Recalculation Fault)
+worked_out k n x = do
+  rounds ← opened k n blank
+  and_then rounds.0 λ h. pure (Ok (record { handle = h; first = k; count = n; index = x; value = index (take n rounds.1) }))
 
 -- Work a recalculation out again, and finish it.
-pub data Redid (w : Recalculation) : Result Redone Fault → List Made → Type 0 where
-  not_redone : (f : Fault) (ns : List Made) → WorkedOut w.first w.count w.index (Err f) ns → Redid w (Err f) ns
-  redone : (v : Recalculation) (r : Result Verdict Fault) (ns ms : List Made)
-      → WorkedOut w.first w.count w.index (Ok v) ns → Finished v.handle v.index v.value r ms
-      → Redid w (Ok (record { work = v; end = r })) (ms ++ ns)
+abbrev pub redone : Recalculation → Procedure (Result Redone Fault)
+redone w = do
+  worked ← worked_out w.first w.count w.index
+  and_then worked λ v. do
+    end ← finished v.handle v.index v.value
+    pure (Ok (record { work = v; end = end }))
 
 -- Begin a reader, read all the club's keys, and commit it.
-pub data Listed : Result Said Fault → List Made → Type 0 where
-  none_listed : (f : Fault) → Listed (Err f) (made (Begin Reader) [] (Refused f) [] ∷ [])
-  not_listed : (h : ℕ) (f : Fault) (b : List ℕ) (a : Answer)
-      → Listed (Err f) (made (Commit h) [] a [] ∷ made (Read h 0 8) blank (Refused f) b ∷ made (Begin Reader) [] (Began h) [] ∷ [])
-  listed : (h : ℕ) (b : List ℕ) (a : Answer)
-      → Listed (Ok (Values b)) (made (Commit h) [] a [] ∷ made (Read h 0 8) blank ReadDone b ∷ made (Begin Reader) [] (Began h) [] ∷ [])
+abbrev pub listed : Procedure (Result Said Fault)
+listed = do
+  begun ← begin Reader
+  and_then begun λ h. do
+    seen ← read h 0 8 blank
+    _ ← commit h
+    pure (said (λ u. Values seen.1) seen.0)
 
 -- Read all the club's keys under h.
-pub data Shown (h : ℕ) : Result Said Fault → List Made → Type 0 where
-  not_shown : (f : Fault) (b : List ℕ) → Shown h (Err f) (made (Read h 0 8) blank (Refused f) b ∷ [])
-  shown : (b : List ℕ) → Shown h (Ok (Values b)) (made (Read h 0 8) blank ReadDone b ∷ [])
+abbrev pub shown : ℕ → Procedure (Result Said Fault)
+shown h = do
+  seen ← read h 0 8 blank
+  pure (said (λ u. Values seen.1) seen.0)

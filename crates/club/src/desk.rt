@@ -1,8 +1,9 @@
 //! What each event of an afternoon does.
-ghost use Rattle.std.specs.Prelude.{◌≡◌, None};
+ghost use Rattle.std.specs.Prelude.{◌≡◌, None, IfSome, IfNone};
+ghost use Rattle.std.specs.Result.{result_ok};
 ghost use Rattle.club.specs.Lines.{event as told_by};
-ghost use Rattle.club.specs.Transactions.{Makes};
-ghost use Rattle.club.specs.Events.{Answered, Does, Finishes, Recalculated, new_desk};
+ghost use Rattle.club.specs.Procedures.{Performs};
+ghost use Rattle.club.specs.Events.{Shows, engine_of, pending_of, pending_after, new_desk, acted, answered, recalculated};
 
 use crate::event::Event;
 use crate::line::parse;
@@ -33,14 +34,25 @@ impl<S: VersionStore, V: Validator> Desk<S, V> {
 
     /// Does what a line tells of; a malformed one is refused with its number.
     pub fn answer(&mut self, number: u64, line: &[u8]) -> Result<Said, CallFault>
-        ensures { Answered S.meaning V.meaning self.old self.new number (told_by line.now) result }
+        ensures performs { Performs S.meaning V.meaning (engine_of self.old) (engine_of self.new)
+            (answered number (pending_of self.old) (told_by line.now))
+            (result, pending_of self.new) }
+        ensures pending { IfSome (told_by line.now) (λ event.
+            pending_of self.new ≡ pending_after event (pending_of self.old) (result_ok result)) }
+        ensures malformed { IfNone (told_by line.now) (self.new ≡ self.old) }
+        ensures shows { IfSome (told_by line.now) (λ event.
+            Shows S.meaning V.meaning (engine_of self.old) event result) }
     {
         let event = parse(line).ok_or(CallFault::Malformed(number))?;
         Ok(self.act(event)?)
     }
 
     pub fn act(&mut self, event: Event) -> Result<Said, Fault>
-        ensures { Does S.meaning V.meaning self.old self.new event result }
+        ensures performs { Performs S.meaning V.meaning (engine_of self.old) (engine_of self.new)
+            (acted event (pending_of self.old)) (result, pending_of self.new) }
+        ensures pending { pending_of self.new ≡
+            pending_after event (pending_of self.old) (result_ok result) }
+        ensures shows { Shows S.meaning V.meaning (engine_of self.old) event result }
     {
         let engine = &mut self.engine;
         match event {
@@ -56,10 +68,12 @@ impl<S: VersionStore, V: Validator> Desk<S, V> {
         }
     }
 
-    // First, count and index stand apart here as in the event.
     fn recalculate(&mut self, first: u16, count: u16, index: u16) -> Result<Said, Fault>
-        ensures { Makes S.meaning V.meaning self.old.engine self.new.engine
-            (Recalculated first count index self.old.pending self.new.pending result) }
+        ensures performs { Performs S.meaning V.meaning self.old.engine self.new.engine
+            (recalculated first count index self.old.pending) (result, self.new.pending) }
+        ensures pending { self.new.pending ≡
+            pending_after (Event.Recalculation first count index) self.old.pending
+            (result_ok result) }
     {
         if self.pending.is_some() {
             return Ok(Said::AlreadyOpen);
@@ -71,8 +85,8 @@ impl<S: VersionStore, V: Validator> Desk<S, V> {
 
     /// Commits the recalculation; one that is restarted is done again at once.
     fn finish(&mut self) -> Result<Said, Fault>
-        ensures makes { Makes S.meaning V.meaning self.old.engine self.new.engine
-            (Finishes self.old.pending result) }
+        ensures performs { Performs S.meaning V.meaning self.old.engine self.new.engine
+            (acted Event.Finish self.old.pending) (result, self.new.pending) }
         ensures pending { self.new.pending ≡ None }
     {
         let Some(work) = self.pending.take() else {

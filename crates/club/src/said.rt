@@ -7,11 +7,10 @@ use ledger::{Fault, Verdict};
 use std::fmt;
 
 /// The keys of the club's table, all of which a list shows.
-// Lengths of arrays are `KEYS as usize`, since no conversion by `From` can stand there.
 pub const KEYS: u16 = 8;
 
 /// A recalculation that has read its rounds and not yet written its index.
-#[derive(Clone, Copy, PartialEq)]
+#[derive(Clone, Copy, PartialEq, Eq)]
 pub struct Recalculation {
     pub handle: u32,
     pub first: u16,
@@ -21,14 +20,14 @@ pub struct Recalculation {
 }
 
 /// A recalculation that was done again, and how that ended.
-#[derive(Clone, Copy, PartialEq)]
+#[derive(Clone, Copy, PartialEq, Eq)]
 pub struct Redone {
     pub work: Recalculation,
     pub end: Result<Verdict, Fault>,
 }
 
 /// What an event did.
-#[derive(Clone, Copy, PartialEq)]
+#[derive(Clone, Copy, PartialEq, Eq)]
 pub enum Said {
     /// Key, value and end.
     Card(u16, u64, Result<Verdict, Fault>),
@@ -46,7 +45,7 @@ pub enum Said {
 }
 
 /// An answer, or why it was refused, as it is printed.
-#[derive(Drop, PartialEq)]
+#[derive(Drop, PartialEq, Eq)]
 pub struct Told<T, E>(pub Result<T, E>);
 
 impl<T: fmt::Display, E: fmt::Display> fmt::Display for Told<T, E> {

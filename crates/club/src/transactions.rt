@@ -1,7 +1,8 @@
 //! The transactions that a club's events are made of, on any engine.
 ghost use Rattle.std.specs.Prelude.{IfOk};
 ghost use Rattle.club.specs.Moments.{ShowsNow, ShowsOpening};
-ghost use Rattle.club.specs.Transactions.{Makes, Opened, Finished, Posted, Corrected, WorkedOut, Redid, Listed, Shown};
+ghost use Rattle.club.specs.Procedures.{Performs};
+ghost use Rattle.club.specs.Transactions.{opened, finished, posted, corrected, worked_out, redone, listed, shown};
 
 use crate::index::index_of;
 use crate::said::{KEYS, Recalculation, Redone, Said};
@@ -18,11 +19,11 @@ pub fn open<S: VersionStore, V: Validator>(
     count: u16,
     rounds: &mut [u64],
 ) -> Result<u32, Fault>
-    ensures { Makes S.meaning V.meaning engine.old engine.new
-        (Opened first count rounds.old rounds.new result) }
+    ensures { Performs S.meaning V.meaning engine.old engine.new
+        (opened first count rounds.old) (result, rounds.new) }
 {
     let handle = engine.begin(Kind::Updater)?;
-    // No `inspect_err`: with the abort in a closure, which was tried, the steps made did not prove.
+    // No `inspect_err`, here and in `finish`: of a call that a closure makes a proof does not know the step.
     if let Err(fault) = engine.read(handle, first, count, rounds) {
         let _ = engine.abort(handle);
         return Err(fault);
@@ -37,9 +38,9 @@ pub fn finish<S: VersionStore, V: Validator>(
     key: u16,
     value: u64,
 ) -> Result<Verdict, Fault>
-    ensures { Makes S.meaning V.meaning engine.old engine.new (Finished handle key value result) }
+    ensures { Performs S.meaning V.meaning engine.old engine.new
+        (finished handle key value) result }
 {
-    // No `inspect_err`, as in `open`.
     if let Err(fault) = engine.write(handle, key, value) {
         let _ = engine.abort(handle);
         return Err(fault);
@@ -53,7 +54,8 @@ pub fn post<S: VersionStore, V: Validator>(
     key: u16,
     value: u64,
 ) -> Result<Verdict, Fault>
-    ensures { Makes S.meaning V.meaning engine.old engine.new (Posted key value result) }
+    ensures { Performs S.meaning V.meaning engine.old engine.new
+        (posted key value) result }
 {
     let handle = engine.begin(Kind::Updater)?;
     finish(engine, handle, key, value)
@@ -65,7 +67,8 @@ pub fn correct<S: VersionStore, V: Validator>(
     key: u16,
     value: u64,
 ) -> Result<Said, Fault>
-    ensures { Makes S.meaning V.meaning engine.old engine.new (Corrected key value result) }
+    ensures { Performs S.meaning V.meaning engine.old engine.new
+        (corrected key value) result }
 {
     let mut old = [0];
     let handle = open(engine, key, 1, &mut old)?;
@@ -80,7 +83,8 @@ pub fn work_out<S: VersionStore, V: Validator>(
     count: u16,
     index: u16,
 ) -> Result<Recalculation, Fault>
-    ensures { Makes S.meaning V.meaning engine.old engine.new (WorkedOut first count index result) }
+    ensures { Performs S.meaning V.meaning engine.old engine.new
+        (worked_out first count index) result }
 {
     let mut rounds = [0; KEYS as usize];
     let handle = open(engine, first, count, &mut rounds)?;
@@ -100,7 +104,8 @@ pub fn redo<S: VersionStore, V: Validator>(
     engine: &mut Engine<S, V>,
     work: Recalculation,
 ) -> Result<Redone, Fault>
-    ensures { Makes S.meaning V.meaning engine.old engine.new (Redid work result) }
+    ensures { Performs S.meaning V.meaning engine.old engine.new
+        (redone work) result }
 {
     let work = work_out(engine, work.first, work.count, work.index)?;
     let end = finish(engine, work.handle, work.index, work.value);
@@ -109,7 +114,7 @@ pub fn redo<S: VersionStore, V: Validator>(
 
 /// The club list: a reader with a slip in hand, which has to be given up.
 pub fn list<S: VersionStore, V: Validator>(engine: &mut Engine<S, V>) -> Result<Said, Fault>
-    ensures makes { Makes S.meaning V.meaning engine.old engine.new (Listed result) }
+    ensures performs { Performs S.meaning V.meaning engine.old engine.new listed result }
     ensures now { IfOk result (ShowsNow S.meaning V.meaning engine.old) }
 {
     let mut values = [0; KEYS as usize];
@@ -125,7 +130,7 @@ pub fn show<S: VersionStore, V: Validator>(
     engine: &mut Engine<S, V>,
     report: u32,
 ) -> Result<Said, Fault>
-    ensures makes { Makes S.meaning V.meaning engine.old engine.new (Shown report result) }
+    ensures performs { Performs S.meaning V.meaning engine.old engine.new (shown report) result }
     ensures opening { IfOk result (ShowsOpening S.meaning V.meaning engine.old report) }
 {
     let mut values = [0; KEYS as usize];

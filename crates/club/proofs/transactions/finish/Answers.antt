@@ -1,12 +1,11 @@
-use Rattle.std.proofs.Common.{[]}
-use Rattle.engine.specs.Serves.{told}
-use Rattle.ledger.specs.declared.Answer.TheVariants.{Aborted}
-use Rattle.club.specs.Transactions.{not_written, finished}
-use Rattle.club.proofs.Makings.{leads_one, leads_more}
+use Rattle.std.proofs.Common.{Ok, Err}
+use Rattle.club.proofs.Performances.{performs_on, performs_pure, performs_write, performs_abort, performs_commit}
 use Rattle.club.proofs.transactions.finish.Goals as goal
 
 pub returns-in-Err : goal.returns-in-Err
-returns-in-Err g c = record { calls = _; are = not_written c.in-Err.fault (told (λ u. Aborted) c.abort.result); lead = leads_more (leads_one (c.in-Err.ensures.serves [])) (c.abort.ensures.serves []) }
+returns-in-Err g c =
+    performs_on _ (performs_write (Err c.in-Err.fault) c.in-Err.ensures.serves c.in-Err.ensures.idle)
+    (performs_on _ (performs_abort c.abort.result c.abort.ensures.serves c.abort.ensures.idle) (performs_pure _))
 
 pub returns : goal.returns
-returns g c = record { calls = _; are = finished c.commit.result; lead = leads_more (leads_one (c.in_default.ensures.serves [])) (c.commit.ensures.serves []) }
+returns g c = performs_on _ (performs_write (Ok tt) c.in_default.ensures.serves c.in_default.ensures.idle) (performs_commit c.commit.result c.commit.ensures.serves c.commit.ensures.idle)

@@ -2,17 +2,17 @@ use Rattle.std.proofs.Common.{rules, ◌≡◌, length, min, take, refl}
 use Rattle.std.proofs.lemmas.Result.{err_from_is_err_and}
 use Rattle.std.proofs.lemmas.List.{take_min}
 use Rattle.club.specs.Indexes.{index}
-use Rattle.club.specs.Transactions.{not_worked, worked}
+use Rattle.club.proofs.Performances.{performs_on, performs_pure}
 use Rattle.club.proofs.transactions.work_out.Goals as goal
 
 pub returns-in_err-handle : goal.returns-in_err-handle
 returns-in_err-handle g c =
     let q = err_from_is_err_and c.from_residual.result c.from_residual.ensures.1 in
-    rw (q.1, q.2) (record { calls = _; are = not_worked c.in_err-handle.field-0.0 c.open.new.rounds c.in_err-handle.ensures.calls c.in_err-handle.ensures.are; lead = c.in_err-handle.ensures.lead })
+    rw (q.1, q.2) (performs_on _ c.in_err-handle.ensures (performs_pure _))
 
 pub returns : goal.returns
 returns g c =
     let len : length c.open.new.rounds ≡ 8 = search rules in
     let used : c.min-used.result ≡ min c.args.count (length c.open.new.rounds) = rw (len, c.min-used.ensures, c.from.ensures) refl in
     let value : c.index_of-value.result ≡ index (take c.args.count c.open.new.rounds) = rw (c.index_of-value.ensures, used, take_min) refl in
-    rw value (record { calls = _; are = worked c.in_ok-handle.handle c.open.new.rounds c.in_ok-handle.ensures.calls c.in_ok-handle.ensures.are; lead = c.in_ok-handle.ensures.lead })
+    rw value (performs_on _ c.in_ok-handle.ensures (performs_pure _))

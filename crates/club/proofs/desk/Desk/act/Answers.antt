@@ -1,21 +1,30 @@
-use Rattle.std.proofs.Common.{rules, ◌≡◌, [], refl}
+use Rattle.std.proofs.Common.{rules, ◌≡◌}
 use Rattle.club.specs.declared.said.Said.TheVariants.{Ended as SaidEnded, Report as SaidReport}
-use Rattle.club.specs.Events.{said, carded, reported, closed, cleaned}
-use Rattle.club.proofs.Makings.{leads_one}
+use Rattle.club.specs.Transactions.{said}
+use Rattle.club.proofs.Performances.{performs_on, performs_pure, performs_begin, performs_commit, performs_reclaim}
 use Rattle.club.proofs.desk.Desk.act.Goals as goal
 
-pub returns-in-Card : goal.returns-in-Card
-returns-in-Card g c = rw c.in-Card.is (record { makes = record { calls = _; are = (refl, carded c.post.result c.post.ensures.calls c.post.ensures.are); lead = c.post.ensures.lead }; shows = tt })
+pub returns-in-Card-clause-performs : goal.returns-in-Card-clause-performs
+returns-in-Card-clause-performs g c = rw c.in-Card.is (performs_on _ c.post.ensures (performs_pure _))
 
-pub returns-in-Report : goal.returns-in-Report
-returns-in-Report g c =
+pub returns-in-Correction-clause-performs : goal.returns-in-Correction-clause-performs
+returns-in-Correction-clause-performs g c = rw c.in-Correction.is (performs_on _ c.correct.ensures (performs_pure _))
+
+pub returns-in-List-clause-performs : goal.returns-in-List-clause-performs
+returns-in-List-clause-performs g c = rw c.in-List.is (performs_on _ c.list.ensures.performs (performs_pure _))
+
+pub returns-in-Show-clause-performs : goal.returns-in-Show-clause-performs
+returns-in-Show-clause-performs g c = rw c.in-Show.is (performs_on _ c.show.ensures.performs (performs_pure _))
+
+pub returns-in-CleanUp-clause-performs : goal.returns-in-CleanUp-clause-performs
+returns-in-CleanUp-clause-performs g c = rw c.in-CleanUp.is (performs_on _ (performs_reclaim c.reclaim.result c.reclaim.ensures.serves c.reclaim.ensures.idle) (performs_pure _))
+
+pub returns-in-Report-clause-performs : goal.returns-in-Report-clause-performs
+returns-in-Report-clause-performs g c =
     let r : c.map.result ≡ said SaidReport c.begin.result = search rules in
-    rw (c.in-Report.is, r) (record { makes = record { calls = _; are = (refl, reported c.begin.result); lead = leads_one (c.begin.ensures.serves []) }; shows = tt })
+    rw (c.in-Report.is, r) (performs_on _ (performs_begin c.begin.result c.begin.ensures.serves c.begin.ensures.idle) (performs_pure _))
 
-pub returns-in-Close : goal.returns-in-Close
-returns-in-Close g c =
+pub returns-in-Close-clause-performs : goal.returns-in-Close-clause-performs
+returns-in-Close-clause-performs g c =
     let r : c.map-in-Close.result ≡ said SaidEnded c.commit.result = search rules in
-    rw (c.in-Close.is, r) (record { makes = record { calls = _; are = (refl, closed c.commit.result); lead = leads_one (c.commit.ensures.serves []) }; shows = tt })
-
-pub returns-in-CleanUp : goal.returns-in-CleanUp
-returns-in-CleanUp g c = rw c.in-CleanUp.is (record { makes = record { calls = _; are = (refl, cleaned c.reclaim.result); lead = leads_one (c.reclaim.ensures.serves []) }; shows = tt })
+    rw (c.in-Close.is, r) (performs_on _ (performs_commit c.commit.result c.commit.ensures.serves c.commit.ensures.idle) (performs_pure _))
