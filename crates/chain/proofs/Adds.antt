@@ -1,14 +1,13 @@
 -- What a chain store means, and what an add makes of it.
 use Rattle.std.proofs.Common.{◌≡◌, ℕ, suc, ◌<◌, cond, eqb, List, [], ◌∷◌, map, length, get_or, set, Some, None, Option, refl, ap, ◌∙◌, subst, ⊎_elim, arith}
-use mathlib.Core.Path.{fun_ext}
 use Rattle.std.proofs.lemmas.List.{length-set, get_or-set_same}
 use Rattle.std.proofs.lemmas.Grind.{common_steps}
 use Rattle.std.proofs.lemmas.Bool.{cases_eq, eq-eqb, ne_eqb}
-use Rattle.versions.specs.Meaning.{Meaning, as_of, newest, put}
-use Rattle.versions.proofs.Meanings.{falls_more}
+use Rattle.versions.specs.Meaning.{as_of, newest, put, Falling, Revision}
+use Rattle.versions.proofs.Meanings.{store_same, falls_more}
 use Rattle.chain.specs.declared.cell.Cell.{Cell}
-use Rattle.chain.specs.Links.{cell_at, cleared, list_from, version_at, version_of, first_below}
-use Rattle.chain.specs.Store.{chain_of, versions_of, chained, Sound, Falling}
+use Rattle.chain.specs.Links.{cell_at, cleared, list_from, version_at, version_of, first_below, content_of}
+use Rattle.chain.specs.Store.{chain_of, chain_versions, store_of_chains, Sound}
 use Rattle.chain.proofs.Tallies.{times_self}
 use Rattle.chain.proofs.Chains.{list_step, versions_other}
 use Rattle.chain.proofs.Holdings.{with_list, Held, held_from_sound, settled, held_add, not_in_chain}
@@ -18,16 +17,12 @@ pub as_of_first : (tick : ℕ) (cells : List Cell) (is : List ℕ) → version_o
 as_of_first tick cells [] = refl
 as_of_first tick cells (i ∷ is) = grind (arith, common_steps, as_of_first tick cells is)
 
--- stores with the same keys, cells and versions mean the same
-pub meaning_same : (keys keys' cells cells' : ℕ) (f g : ℕ → List (ℕ × ℕ)) → keys ≡ keys' → cells ≡ cells' → ((k : ℕ) → f k ≡ g k) → ◌≡◌ {A = Meaning} (record { keys = keys; cells = cells; versions = f }) (record { keys = keys'; cells = cells'; versions = g })
-meaning_same keys keys' cells cells' f g a b each = let c : f ≡ g = fun_ext each in rw (a, b, c) refl
-
 module _ (heads : List (Option ℕ)) (cells : List Cell) (k i : ℕ) (x : Cell) where
   -- a cell taken from the unused ones and put in front of one key's chain
   pub record Added (unused : Option ℕ) : Type 0 where
     pub low : i < length cells
     pub sound : Sound (set heads k (Some i)) (set cells i x) (cell_at cells i).next
-    pub versions : (j : ℕ) → versions_of (set heads k (Some i)) (set cells i x) j ≡ cond (eqb k j) ((x.stamp, x.value) ∷ versions_of heads cells j) (versions_of heads cells j)
+    pub versions : (j : ℕ) → chain_versions (set heads k (Some i)) (set cells i x) j ≡ cond (eqb k j) (content_of x ∷ chain_versions heads cells j) (chain_versions heads cells j)
     pub spare : length (list_from cells unused) ≡ suc (length (list_from (set cells i x) (cell_at cells i).next))
 
   pub adds : (unused : Option ℕ) → Sound heads cells unused → unused ≡ Some i → k < length heads → x.next ≡ get_or heads k None → Added unused
@@ -38,8 +33,8 @@ module _ (heads : List (Option ℕ)) (cells : List Cell) (k i : ℕ) (x : Cell) 
       let held : Held heads cells chains unused (i ∷ us) None [] = subst (λ (r : List ℕ). Held heads cells chains unused r None []) step.list (held_from_sound heads cells unused s) in
       let after = settled (set heads k (Some i)) (set cells i x) (with_list k (i ∷ chains k) chains) (cell_at cells i).next us (held_add heads cells chains unused i us k x known next held) in
       let self = times_self i us in
-      let other : (j : ℕ) → map (version_at (set cells i x)) (chains j) ≡ versions_of heads cells j = λ j. versions_other cells i x (chains j) (not_in_chain heads cells chains unused (i ∷ us) None [] held i j (omega arith)) in
-      let here : version_at (set cells i x) i ≡ (x.stamp, x.value) = rw (get_or-set_same cells i x (cleared None) step.low) refl in
+      let other : (j : ℕ) → map (version_at (set cells i x)) (chains j) ≡ chain_versions heads cells j = λ j. versions_other cells i x (chains j) (not_in_chain heads cells chains unused (i ∷ us) None [] held i j (omega arith)) in
+      let here : version_at (set cells i x) i ≡ content_of x = rw (get_or-set_same cells i x (cleared None) step.low) refl in
       record {
         low = step.low;
         sound = after.sound;
@@ -48,21 +43,20 @@ module _ (heads : List (Option ℕ)) (cells : List Cell) (k i : ℕ) (x : Cell) 
             ∙ ⊎_elim
             (λ (e : k ≡ j).
             let t = eq-eqb k j e in
-            rw t (ap (λ (v : ℕ × ℕ). v ∷ map (version_at (set cells i x)) (chains k)) here ∙ ap (λ (vs : List (ℕ × ℕ)). (x.stamp, x.value) ∷ vs) (other k) ∙ ap (λ (m : ℕ). (x.stamp, x.value) ∷ versions_of heads cells m) e))
+            rw t (ap (λ (v : Revision). v ∷ map (version_at (set cells i x)) (chains k)) here ∙ ap (λ (vs : List Revision). content_of x ∷ vs) (other k) ∙ ap (λ (m : ℕ). content_of x ∷ chain_versions heads cells m) e))
             (λ (e : k ≡ j → ⊥). let f = ne_eqb k j e in rw f (other j))
             (cases_eq k j);
         spare = omega (arith, ap length step.list, ap length after.spare);
       }
 
-  pub added_falls : (unused : Option ℕ) → Added unused → (newest (versions_of heads cells k)).0 < x.stamp → Falling heads cells → Falling (set heads k (Some i)) (set cells i x)
+  pub added_falls : (unused : Option ℕ) → Added unused → (newest (chain_versions heads cells k)).stamp < x.stamp → Falling (chain_versions heads cells) → Falling (chain_versions (set heads k (Some i)) (set cells i x))
   added_falls unused a later falling j =
       rw (a.versions j)
       (⊎_elim
-      (λ (e : k ≡ j). let t = eq-eqb k j e in rw t (falls_more (x.stamp, x.value) (versions_of heads cells j) (subst (λ (m : ℕ). (newest (versions_of heads cells m)).0 < x.stamp) e later) (falling j)))
+      (λ (e : k ≡ j). let t = eq-eqb k j e in rw t (falls_more (content_of x) (chain_versions heads cells j) (subst (λ (m : ℕ). (newest (chain_versions heads cells m)).stamp < x.stamp) e later) (falling j)))
       (λ (e : k ≡ j → ⊥). let f = ne_eqb k j e in rw f (falling j))
       (cases_eq k j))
 
-  pub added_means : (unused : Option ℕ) → Added unused → chained (set heads k (Some i)) (set cells i x) ≡ put k x.stamp x.value (chained heads cells)
+  pub added_means : (unused : Option ℕ) → Added unused → store_of_chains (set heads k (Some i)) (set cells i x) ≡ put k x.stamp x.value (store_of_chains heads cells)
   added_means unused a =
-      meaning_same (length (set heads k (Some i))) (length heads) (length (set cells i x)) (length cells) (versions_of (set heads k (Some i)) (set cells i x)) (λ j. cond (eqb k j) ((x.stamp, x.value) ∷ versions_of heads cells j) (versions_of heads cells j))
-      (length-set heads k (Some i)) (length-set cells i x) a.versions
+      store_same (length-set heads k (Some i)) (length-set cells i x) a.versions

@@ -2,10 +2,11 @@
 use Rattle.std.proofs.Common.{◌≡◌, ℕ, zero, suc, ◌<◌, ◌≤◌, Bool, true, false, cond, ltb, List, [], ◌∷◌, ◌++◌, map, length, set, Some, None, Option, sym, refl, ap, ◌∙◌, subst, ⊎_elim, arith}
 use mathlib.Core.Path.{fun_ext}
 use Rattle.std.proofs.lemmas.List.{length-set, get_or-set_same, get_or-set_other}
+use Rattle.std.specs.Option.{ForSome}
 use Rattle.std.proofs.lemmas.Grind.{common_steps}
 use Rattle.std.proofs.lemmas.Bool.{false≢true, and_parts, and_from, ltb-true, lt-ltb, cases_Bool}
 use Rattle.chain.specs.declared.cell.Cell.{Cell}
-use Rattle.chain.specs.Links.{cell_at, cleared, walk, ends, list_from, Ends, inside, times, Once, version_at, first_below, behind, ended_at, given_back}
+use Rattle.chain.specs.Links.{cell_at, cleared, walk, ends, list_from, Ends, times, Once, version_at, first_below, behind, ended_at, given_back}
 use Rattle.chain.proofs.Tallies.{times_none, once_first, once_rest}
 
 abbrev pub Chain : List Cell → Option ℕ → List ℕ → Type 0
@@ -104,9 +105,8 @@ pub first_low : (tick : ℕ) (cells : List Cell) (link : Option ℕ) (i : ℕ) �
 first_low tick cells link i e found =
     chain_low cells link (list_from cells link) i (chain_from_walk cells (length cells) link e) (first_stands tick cells (list_from cells link) i found)
 
-pub first_inside : (tick : ℕ) (cells : List Cell) (link o : Option ℕ) → Ends cells link → o ≡ first_below tick cells (list_from cells link) → inside cells o ≡ true
-first_inside tick cells link None e found = refl
-first_inside tick cells link (Some i) e found = grind (arith, common_steps, first_low tick cells link i e (sym found))
+pub first_inside : (tick : ℕ) (cells : List Cell) (link o : Option ℕ) → Ends cells link → o ≡ first_below tick cells (list_from cells link) → ForSome o (λ i. i < length cells)
+first_inside tick cells link o e found = λ i is. first_low tick cells link i e (sym found ∙ is)
 
 pub length_ended : (cells : List Cell) (o : Option ℕ) → length (ended_at cells o) ≡ length cells
 length_ended cells None = refl

@@ -2,23 +2,25 @@
 use Rattle.std.proofs.Common.{◌≡◌, ℕ, ◌+◌, ◌-◌, ◌<◌, ◌≤◌, eqb, List, length, get_or, set, Some, None, Ok, Option, sym, refl, ap, ◌∙◌, arith}
 use Rattle.std.proofs.lemmas.List.{length-set}
 use Rattle.versions.specs.declared.fault.StoreFault.TheVariants.{Full}
-use Rattle.versions.specs.Meaning.{newest, newest_answer, add_answer, added, kept}
+use Rattle.stamped.specs.declared.TheConstants.{MAX_KEYS}
+use Rattle.versions.specs.declared.store.TheConstants.{MAX_CELLS}
+use Rattle.versions.specs.Meaning.{newest, newest_answer, add_answer, added, kept, Falling}
 use Rattle.versions.proofs.Meanings.{newest_ok, add_full, add_fine, added_refused, added_done}
 use Rattle.chain.specs.declared.cell.Cell.{Cell}
 use Rattle.chain.specs.declared.store.ChainStore.{ChainStore}
 use Rattle.chain.specs.Links.{cell_at, filled, list_from}
-use Rattle.chain.specs.Store.{versions_of, chained, Sound, Falling}
+use Rattle.chain.specs.Store.{chain_versions, store_of_chains, Sound}
 use Rattle.chain.proofs.Chains.{list_step}
 use Rattle.chain.specs.Laws.{kept_and_unused}
 use Rattle.chain.proofs.Adds.{adds, added_falls, added_means}
 
 pub record Facts (heads : List (Option ℕ)) (cells : List Cell) (unused : Option ℕ) (free : ℕ) : Type 0 where
-  pub few : length heads ≤ 1024
-  pub small : length cells ≤ 2048
+  pub few : length heads ≤ MAX_KEYS
+  pub small : length cells ≤ MAX_CELLS
   pub both : eqb (length heads) 0 ≡ eqb (length cells) 0
   pub sound : Sound heads cells unused
-  pub counted : kept (chained heads cells) + free ≡ length cells
-  pub falling : Falling heads cells
+  pub counted : kept (store_of_chains heads cells) + free ≡ length cells
+  pub falling : Falling (chain_versions heads cells)
 
 pub facts : (s : ChainStore) → Facts s.heads.now s.cells.now s.unused s.free
 facts s =
@@ -41,7 +43,7 @@ some_free heads cells unused free cell f some =
 
 -- the same number of heads and cells is as right as before
 module _ (heads heads' : List (Option ℕ)) (cells cells' : List Cell) (unused unused' : Option ℕ) (free free' : ℕ) (f : Facts heads cells unused free) (long : length heads' ≡ length heads) (long' : length cells' ≡ length cells) where
-  pub facts_kept : Sound heads' cells' unused' → free' ≡ length (list_from cells' unused') → Falling heads' cells' → Facts heads' cells' unused' free'
+  pub facts_kept : Sound heads' cells' unused' → free' ≡ length (list_from cells' unused') → Falling (chain_versions heads' cells') → Facts heads' cells' unused' free'
   facts_kept sound counted falling =
       record {
         few = omega (arith, f.few);
@@ -53,25 +55,25 @@ module _ (heads heads' : List (Option ℕ)) (cells cells' : List Cell) (unused u
       }
 
 module _ (heads : List (Option ℕ)) (cells : List Cell) (unused : Option ℕ) (free : ℕ) (f : Facts heads cells unused free) where
-  module _ (key stamp value : ℕ) (told : ℕ × ℕ) (ok : Ok told ≡ newest_answer (chained heads cells) key) (later : told.0 < stamp) where
+  module _ (key stamp value : ℕ) (told : ℕ × ℕ) (ok : Ok told ≡ newest_answer (store_of_chains heads cells) key) (later : told.0 < stamp) where
     known : key < length heads
-    known = (newest_ok (chained heads cells) key told ok).0
+    known = (newest_ok (store_of_chains heads cells) key told ok).0
 
-    above : (newest (versions_of heads cells key)).0 < stamp
-    above = omega (arith, ap (λ (p : ℕ × ℕ). p.0) (newest_ok (chained heads cells) key told ok).1, later)
+    above : (newest (chain_versions heads cells key)).stamp < stamp
+    above = omega (arith, ap (λ (p : ℕ × ℕ). p.0) (newest_ok (store_of_chains heads cells) key told ok).1, later)
 
     -- with no unused cell the add is refused
-    pub added_none : unused ≡ None → chained heads cells ≡ added (chained heads cells) key stamp value
+    pub added_none : unused ≡ None → store_of_chains heads cells ≡ added (store_of_chains heads cells) key stamp value
     added_none none =
         let all = kept_and_unused heads cells unused f.sound in
         let nothing : length (list_from cells unused) ≡ 0 = rw none refl in
-        added_refused (chained heads cells) key stamp value (Full key) (add_full (chained heads cells) key stamp known above (omega (arith, all, nothing)))
+        added_refused (store_of_chains heads cells) key stamp value (Full key) (add_full (store_of_chains heads cells) key stamp known above (omega (arith, all, nothing)))
 
     -- what an add leaves, as the call of push tells it
     pub record Adding (heads' : List (Option ℕ)) (cells' : List Cell) (unused' : Option ℕ) : Type 0 where
       pub facts : Facts heads' cells' unused' (free - 1)
-      pub answer : Ok tt ≡ add_answer (chained heads cells) key stamp
-      pub after : chained heads' cells' ≡ added (chained heads cells) key stamp value
+      pub answer : Ok tt ≡ add_answer (store_of_chains heads cells) key stamp
+      pub after : store_of_chains heads' cells' ≡ added (store_of_chains heads cells) key stamp value
 
     pub adding : (cell : ℕ) → unused ≡ Some cell → (heads' : List (Option ℕ)) (cells' : List Cell) (unused' : Option ℕ)
         → unused' ≡ (cell_at cells cell).next → heads' ≡ set heads key (Some cell) → cells' ≡ set cells cell (record { stamp = stamp; value = value; next = get_or heads key None })
@@ -80,10 +82,10 @@ module _ (heads : List (Option ℕ)) (cells : List Cell) (unused : Option ℕ) (
         let x : Cell = record { stamp = stamp; value = value; next = get_or heads key None } in
         let a = adds heads cells key cell x unused f.sound some known refl in
         let all = kept_and_unused heads cells unused f.sound in
-        let fine = add_fine (chained heads cells) key stamp known above (omega (arith, all, a.spare)) in
+        let fine = add_fine (store_of_chains heads cells) key stamp known above (omega (arith, all, a.spare)) in
         rw (head, filled, rest)
         (record {
           facts = facts_kept heads (set heads key (Some cell)) cells (set cells cell x) unused (cell_at cells cell).next free (free - 1) f (length-set heads key (Some cell)) (length-set cells cell x) a.sound (omega (arith, free_is heads cells unused free f, a.spare)) (added_falls heads cells key cell x unused a above f.falling);
           answer = sym fine;
-          after = added_means heads cells key cell x unused a ∙ added_done (chained heads cells) key stamp value fine;
+          after = added_means heads cells key cell x unused a ∙ added_done (store_of_chains heads cells) key stamp value fine;
         })

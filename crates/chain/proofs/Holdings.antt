@@ -5,10 +5,11 @@ use Rattle.std.proofs.lemmas.List.{length-set, length-append, get_or-set_same, g
 use Rattle.std.proofs.lemmas.Grind.{common_steps}
 use Rattle.std.proofs.lemmas.Bool.{cases_eq, eq-eqb, ne_eqb}
 use Rattle.versions.specs.Meaning.{sum_below}
+use Rattle.versions.proofs.Lists.{sum_change}
 use Rattle.chain.specs.declared.cell.Cell.{Cell}
 use Rattle.chain.specs.Links.{cell_at, cleared, list_from, Ends, times, Once, version_at, first_below, behind, ended_at, given_back}
 use Rattle.chain.specs.Store.{chain_of, Sound}
-use Rattle.chain.proofs.Tallies.{times_self, times_append, sum_has, sum_two, sum_change}
+use Rattle.chain.proofs.Tallies.{times_cons, times_self, times_append, sum_has, sum_two}
 use Rattle.chain.proofs.Chains.{Chain, chain_from_walk, walk_from_chain, chain_none, chain_other, chain_push, upto, beyond, upto_beyond, first_stands, length_ended, chain_ended_other, chain_upto, chain_beyond, versions_other}
 
 -- lists by key, with that of one key changed
@@ -121,7 +122,7 @@ held_give heads cells chains unused us loose i ls held =
       keyed = λ k. chain_other cells i x (get_or heads k None) (chains k) (not_in_chain heads cells chains unused us loose (i ∷ ls) held i k (omega arith)) (held.keyed k);
       spare = chain_push cells i x us held.going.1 (omega (arith, held.once i)) held.spare;
       going = chain_other cells i x (cell_at cells i).next ls (omega (arith, held.once i)) held.going.2;
-      once = λ j. omega (arith, held.once j);
+      once = λ j. omega (arith, held.once j, times_cons j i ls, times_cons j i us);
       whole = omega (arith, held.whole, length-set cells i x);
     }
 
@@ -164,6 +165,6 @@ held_add heads cells chains unused i us k x low next held =
           (λ j ne. let ne' : j ≡ k → ⊥ = λ e. ne (sym e) in rw (get_or-set_other heads k j (Some i) None ne') (chain_other cells i x (get_or heads j None) (chains j) (apart j) (held.keyed j)));
       spare = chain_other cells i x (cell_at cells i).next us (omega (arith, held.once i)) held.spare.2;
       going = refl;
-      once = λ j. rw (length-set heads k (Some i)) (omega (arith, held.once j, sum_with (times j) (length heads) k (i ∷ chains k) chains low));
+      once = λ j. rw (length-set heads k (Some i)) (omega (arith, held.once j, times_cons j i us, times_cons j i (chains k), sum_with (times j) (length heads) k (i ∷ chains k) chains low));
       whole = rw (length-set heads k (Some i)) (omega (arith, held.whole, sum_with length (length heads) k (i ∷ chains k) chains low, length-set cells i x));
     }

@@ -2,15 +2,14 @@
 use Rattle.std.proofs.Common.{◌≡◌, ℕ, ◌+◌, ◌<◌, ◌≤◌, List, [], ◌∷◌, map, length, Option, sym, refl, ap, ◌∙◌, subst, ⊎_elim, arith}
 use Rattle.std.proofs.lemmas.Grind.{common_steps}
 use Rattle.std.proofs.lemmas.Bool.{cases_eq}
-use Rattle.versions.specs.Meaning.{kept, survivors, pruned}
-use Rattle.versions.proofs.Meanings.{cut, survivors_cut, falls_cut, dead_and_kept}
+use Rattle.versions.specs.Meaning.{kept, survivors, pruned, Falling}
+use Rattle.versions.proofs.Meanings.{store_same, cut, survivors_cut, falls_cut, outdated_and_kept}
 use Rattle.chain.specs.declared.cell.Cell.{Cell}
 use Rattle.chain.specs.Links.{list_from, Ends, times, Once, version_at, first_below, behind, ended_at, given_back}
-use Rattle.chain.specs.Store.{chain_of, versions_of, chained, Sound, Falling, Pruned}
+use Rattle.chain.specs.Store.{chain_of, chain_versions, store_of_chains, Sound, Pruned}
 use Rattle.chain.proofs.Chains.{walk_from_chain, upto, beyond, length_ended, versions_ended}
 use Rattle.chain.proofs.Holdings.{with_list, with_list_same, with_list_other, Held, held_from_sound, settled, held_cut, held_give_all, onto, length_onto}
 use Rattle.chain.specs.Laws.{kept_and_unused}
-use Rattle.chain.proofs.Adds.{meaning_same}
 
 -- the chain up to its first cell below a tick has the versions up to the first below it
 versions_upto : (tick : ℕ) (cells : List Cell) (is : List ℕ) → map (version_at cells) (upto tick cells is) ≡ cut tick (map (version_at cells) is)
@@ -20,8 +19,8 @@ versions_upto tick cells (i ∷ is) = grind (arith, common_steps, versions_upto 
 -- the chains of the keys below k are pruned, the others are as they were
 pub record Pruning (tick : ℕ) (heads : List (Option ℕ)) (old : List Cell) (spare : Option ℕ) (cells : List Cell) (unused : Option ℕ) (count k : ℕ) : Type 0 where
   pub sound : Sound heads cells unused
-  pub behind : (j : ℕ) → j < k → versions_of heads cells j ≡ survivors tick (versions_of heads old j)
-  pub ahead : (j : ℕ) → k ≤ j → versions_of heads cells j ≡ versions_of heads old j
+  pub behind : (j : ℕ) → j < k → chain_versions heads cells j ≡ survivors tick (chain_versions heads old j)
+  pub ahead : (j : ℕ) → k ≤ j → chain_versions heads cells j ≡ chain_versions heads old j
   pub long : length cells ≡ length old
   pub freed : length (list_from cells unused) ≡ length (list_from old spare) + count
 
@@ -34,19 +33,19 @@ module _ (tick : ℕ) (heads : List (Option ℕ)) (cells : List Cell) (unused : 
   held_after_cut = held_cut tick heads cells (chain_of heads cells) unused (list_from cells unused) k low (held_from_sound heads cells unused s)
 
   -- its tail, as the call tells it
-  pub record Cut (after : List Cell) (dead : Option ℕ) : Type 0 where
-    pub ended : Ends after dead
-    pub list : list_from after dead ≡ beyond tick cells (chain_of heads cells k)
-    pub once : Once (list_from after dead)
+  pub record Cut (after : List Cell) (tail : Option ℕ) : Type 0 where
+    pub ended : Ends after tail
+    pub list : list_from after tail ≡ beyond tick cells (chain_of heads cells k)
+    pub once : Once (list_from after tail)
 
-  pub cut_loose : (after : List Cell) (dead : Option ℕ) → after ≡ ended_at cells where_cut → dead ≡ behind cells where_cut → Cut after dead
-  cut_loose after dead is_cut is-dead =
+  pub cut_loose : (after : List Cell) (tail : Option ℕ) → after ≡ ended_at cells where_cut → tail ≡ behind cells where_cut → Cut after tail
+  cut_loose after tail is_cut is-tail =
       let held = held_after_cut in
       let w = walk_from_chain (ended_at cells where_cut) (beyond tick cells (chain_of heads cells k)) (length (ended_at cells where_cut)) (behind cells where_cut) held.going (omega (arith, held.whole)) in
-      rw (is_cut, is-dead) (record { ended = w.0; list = w.1; once = λ i. omega (arith, held.once i, ap (times i) w.1) })
+      rw (is_cut, is-tail) (record { ended = w.0; list = w.1; once = λ i. omega (arith, held.once i, ap (times i) w.1) })
 
 -- its tail goes back, and the next key is at hand
-module _ (tick : ℕ) (heads : List (Option ℕ)) (old : List Cell) (spare : Option ℕ) (cells : List Cell) (unused : Option ℕ) (count k : ℕ) (low : k < length heads) (falling : Falling heads old) (p : Pruning tick heads old spare cells unused count k) where
+module _ (tick : ℕ) (heads : List (Option ℕ)) (old : List Cell) (spare : Option ℕ) (cells : List Cell) (unused : Option ℕ) (count k : ℕ) (low : k < length heads) (falling : Falling (chain_versions heads old)) (p : Pruning tick heads old spare cells unused count k) where
   abbrev tail_of : List ℕ
   tail_of = beyond tick cells (chain_of heads cells k)
 
@@ -61,17 +60,17 @@ module _ (tick : ℕ) (heads : List (Option ℕ)) (old : List Cell) (spare : Opt
       let front = upto tick cells (chains k) in
       let given = held_give_all heads (ended_at cells o) (with_list k front chains) unused us (behind cells o) tail_of (held_after_cut tick heads cells unused k low p.sound) in
       let after = settled heads left_over.0 (with_list k front chains) left_over.1 (onto tail_of us) given.held in
-      let versions : (j : ℕ) → versions_of heads left_over.0 j ≡ map (version_at cells) (with_list k front chains j) = λ j.
+      let versions : (j : ℕ) → chain_versions heads left_over.0 j ≡ map (version_at cells) (with_list k front chains j) = λ j.
       ap (λ (f : ℕ → List ℕ). map (version_at left_over.0) (f j)) after.same ∙ given.versions j ∙ versions_ended cells o (with_list k front chains j) in
-      let here : versions_of heads left_over.0 k ≡ survivors tick (versions_of heads old k) =
-      versions k ∙ ap (map (version_at cells)) (with_list_same k front chains) ∙ versions_upto tick cells (chains k) ∙ ap (cut tick) (p.ahead k (omega arith)) ∙ sym (survivors_cut tick (versions_of heads old k) (falling k)) in
-      let other : (j : ℕ) → (k ≡ j → ⊥) → versions_of heads left_over.0 j ≡ versions_of heads cells j = λ j ne.
+      let here : chain_versions heads left_over.0 k ≡ survivors tick (chain_versions heads old k) =
+      versions k ∙ ap (map (version_at cells)) (with_list_same k front chains) ∙ versions_upto tick cells (chains k) ∙ ap (cut tick) (p.ahead k (omega arith)) ∙ sym (survivors_cut tick (chain_versions heads old k) (falling k)) in
+      let other : (j : ℕ) → (k ≡ j → ⊥) → chain_versions heads left_over.0 j ≡ chain_versions heads cells j = λ j ne.
       versions j ∙ ap (map (version_at cells)) (with_list_other k front chains j ne) in
       record {
         sound = after.sound;
         behind = λ j below.
             ⊎_elim
-            (λ (e : k ≡ j). subst (λ (m : ℕ). versions_of heads left_over.0 m ≡ survivors tick (versions_of heads old m)) e here)
+            (λ (e : k ≡ j). subst (λ (m : ℕ). chain_versions heads left_over.0 m ≡ survivors tick (chain_versions heads old m)) e here)
             (λ (e : k ≡ j → ⊥). other j e ∙ p.behind j (omega arith))
             (cases_eq k j);
         ahead = λ j above. other j (λ e. omega arith) ∙ p.ahead j (omega arith);
@@ -80,28 +79,28 @@ module _ (tick : ℕ) (heads : List (Option ℕ)) (old : List Cell) (spare : Opt
       }
 
   -- the same, as the two calls tell it
-  pub pruning_more : (cells₁ cells₂ : List Cell) (dead link : Option ℕ) (freed : ℕ)
-      → cells₁ ≡ ended_at cells (first_below tick cells (chain_of heads cells k)) → dead ≡ behind cells (first_below tick cells (chain_of heads cells k))
-      → cells₂ ≡ (given_back cells₁ (list_from cells₁ dead) unused).0 → link ≡ (given_back cells₁ (list_from cells₁ dead) unused).1 → freed ≡ length (list_from cells₁ dead)
+  pub pruning_more : (cells₁ cells₂ : List Cell) (tail link : Option ℕ) (freed : ℕ)
+      → cells₁ ≡ ended_at cells (first_below tick cells (chain_of heads cells k)) → tail ≡ behind cells (first_below tick cells (chain_of heads cells k))
+      → cells₂ ≡ (given_back cells₁ (list_from cells₁ tail) unused).0 → link ≡ (given_back cells₁ (list_from cells₁ tail) unused).1 → freed ≡ length (list_from cells₁ tail)
       → Pruning tick heads old spare cells₂ link (count + freed) (k + 1)
-  pruning_more cells₁ cells₂ dead link freed is_cut is-dead is-back is-link is-freed =
-      let tail = (cut_loose tick heads cells unused k low p.sound cells₁ dead is_cut is-dead).list in
-      let back : given_back cells₁ (list_from cells₁ dead) unused ≡ left_over = ap (λ (ls : List ℕ). given_back cells₁ ls unused) tail ∙ ap (λ (cs : List Cell). given_back cs tail_of unused) is_cut in
+  pruning_more cells₁ cells₂ tail link freed is_cut is-tail is-back is-link is-freed =
+      let tail-is = (cut_loose tick heads cells unused k low p.sound cells₁ tail is_cut is-tail).list in
+      let back : given_back cells₁ (list_from cells₁ tail) unused ≡ left_over = ap (λ (ls : List ℕ). given_back cells₁ ls unused) tail-is ∙ ap (λ (cs : List Cell). given_back cs tail_of unused) is_cut in
       let e₁ : cells₂ ≡ left_over.0 = is-back ∙ ap (λ (r : List Cell × Option ℕ). r.0) back in
       let e₂ : link ≡ left_over.1 = is-link ∙ ap (λ (r : List Cell × Option ℕ). r.1) back in
-      let e₃ : freed ≡ length tail_of = is-freed ∙ ap length tail in
+      let e₃ : freed ≡ length tail_of = is-freed ∙ ap length tail-is in
       rw (e₁, e₂, e₃) pruning_step
 
-pub pruning_all : (tick : ℕ) (heads : List (Option ℕ)) (old : List Cell) (spare : Option ℕ) (cells : List Cell) (unused : Option ℕ) (count k : ℕ) → length heads ≤ k → Sound heads old spare → Falling heads old → Pruning tick heads old spare cells unused count k → Pruned tick heads old cells unused count
+pub pruning_all : (tick : ℕ) (heads : List (Option ℕ)) (old : List Cell) (spare : Option ℕ) (cells : List Cell) (unused : Option ℕ) (count k : ℕ) → length heads ≤ k → Sound heads old spare → Falling (chain_versions heads old) → Pruning tick heads old spare cells unused count k → Pruned tick heads old cells unused count
 pruning_all tick heads old spare cells unused count k end sound falling p =
-    let versions : (j : ℕ) → versions_of heads cells j ≡ survivors tick (versions_of heads old j) = λ j.
+    let versions : (j : ℕ) → chain_versions heads cells j ≡ survivors tick (chain_versions heads old j) = λ j.
     grind (arith, common_steps, p.behind j) in
-    let after : chained heads cells ≡ pruned (chained heads old) tick = meaning_same (length heads) (length heads) (length cells) (length old) (versions_of heads cells) (λ j. survivors tick (versions_of heads old j)) refl p.long versions in
-    let fewer : kept (chained heads cells) + count ≡ kept (chained heads old) = omega (arith, kept_and_unused heads old spare sound, kept_and_unused heads cells unused p.sound, p.freed, p.long) in
+    let after : store_of_chains heads cells ≡ pruned (store_of_chains heads old) tick = store_same refl p.long versions in
+    let fewer : kept (store_of_chains heads cells) + count ≡ kept (store_of_chains heads old) = omega (arith, kept_and_unused heads old spare sound, kept_and_unused heads cells unused p.sound, p.freed, p.long) in
     record {
       sound = p.sound;
-      falling = λ j. rw (versions j ∙ survivors_cut tick (versions_of heads old j) (falling j)) (falls_cut tick (versions_of heads old j) (falling j));
+      falling = λ j. rw (versions j ∙ survivors_cut tick (chain_versions heads old j) (falling j)) (falls_cut tick (chain_versions heads old j) (falling j));
       after = after;
-      count = omega (arith, dead_and_kept (chained heads old) tick, ap kept after, fewer);
+      count = omega (arith, outdated_and_kept (store_of_chains heads old) tick, ap kept after, fewer);
       fewer = fewer;
     }

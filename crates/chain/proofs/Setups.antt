@@ -1,17 +1,19 @@
 -- A store just made: all its cells are unused.
-use Rattle.std.proofs.Common.{◌≡◌, ℕ, zero, suc, ◌+◌, ◌<◌, ◌≤◌, false, eqb, List, [], ◌∷◌, ◌++◌, length, get_or, take, set, replicate, is_err, Some, None, Ok, Option, sym, refl, ap, ◌∙◌, add-one, arith}
+use Rattle.std.proofs.Common.{◌≡◌, ℕ, zero, suc, ◌+◌, ◌<◌, ◌≤◌, true, false, eqb, List, [], ◌∷◌, ◌++◌, length, get_or, take, set, replicate, is_err, Some, None, Ok, Option, sym, refl, ap, ◌∙◌, add-one, arith}
 use Rattle.std.proofs.lemmas.List.{take_more_set, length_push, length-replicate, get_or_append_left, get_or_at}
+use Rattle.std.specs.Result.{is_ok}
 use Rattle.std.proofs.lemmas.Grind.{common_steps}
-use Rattle.std.proofs.lemmas.Bool.{ne_eqb}
-use Rattle.versions.specs.Meaning.{empty, made}
+use Rattle.stamped.specs.declared.TheConstants.{MAX_KEYS}
+use Rattle.versions.specs.declared.store.TheConstants.{MAX_CELLS}
+use Rattle.versions.specs.Meaning.{empty, new_store, set_up_answer}
+use Rattle.versions.proofs.Meanings.{store_same, set_up_limits}
 use Rattle.versions.proofs.Lists.{sum_none}
 use Rattle.chain.specs.declared.cell.Cell.{Cell}
 use Rattle.chain.specs.Links.{cell_at, cleared, times, Once, before, laid}
-use Rattle.chain.specs.Store.{versions_of, chained, chain_set_up}
+use Rattle.chain.specs.Store.{chain_versions, store_of_chains, chain_set_up}
 use Rattle.chain.proofs.Chains.{Chain}
 use Rattle.chain.proofs.Holdings.{Held, settled}
 use Rattle.chain.specs.Laws.{kept_and_unused}
-use Rattle.chain.proofs.Adds.{meaning_same}
 use Rattle.chain.proofs.Facts.{Facts}
 
 pub length_laid : (n : ℕ) → length (laid n) ≡ n
@@ -68,14 +70,14 @@ held_laid keys n =
       whole = omega (arith, length_downs n, length_laid n, sum_none (length (no_heads keys)));
     }
 
-pub versions_laid : (keys n k : ℕ) → versions_of (no_heads keys) (laid n) k ≡ []
+pub versions_laid : (keys n k : ℕ) → chain_versions (no_heads keys) (laid n) k ≡ []
 versions_laid keys n k = rw (no_head keys k) refl
 
-pub laid_means : (keys n : ℕ) → chained (no_heads keys) (laid n) ≡ empty keys n
+pub laid_means : (keys n : ℕ) → store_of_chains (no_heads keys) (laid n) ≡ empty keys n
 laid_means keys n =
-    meaning_same (length (no_heads keys)) keys (length (laid n)) n (versions_of (no_heads keys) (laid n)) (λ k. []) (length-replicate {A = Option ℕ} keys None) (length_laid n) (versions_laid keys n)
+    store_same (length-replicate {A = Option ℕ} keys None) (length_laid n) (versions_laid keys n)
 
-pub facts_laid : (keys n : ℕ) → keys ≤ 1024 → n ≤ 2048 → eqb keys 0 ≡ eqb n 0 → Facts (no_heads keys) (laid n) (before n) n
+pub facts_laid : (keys n : ℕ) → keys ≤ MAX_KEYS → n ≤ MAX_CELLS → eqb keys 0 ≡ eqb n 0 → Facts (no_heads keys) (laid n) (before n) n
 facts_laid keys n few small both =
     let s = settled (no_heads keys) (laid n) (λ k. []) (before n) (downs n) (held_laid keys n) in
     record {
@@ -100,34 +102,27 @@ laid_more cells i unused low is front =
 pub record Passed (keys heads cells : ℕ) : Type 0 where
   pub answer : chain_set_up keys heads cells ≡ Ok tt
   pub heads_keys : heads ≡ keys
-  pub some_keys : 0 < keys
-  pub few_keys : keys ≤ 1024
-  pub some_cells : 0 < cells
-  pub few_cells : cells ≤ 2048
+  pub sizes : is_ok (set_up_answer keys cells) ≡ true
 
 pub passed : (keys heads cells : ℕ) → is_err (chain_set_up keys heads cells) ≡ false → Passed keys heads cells
 passed keys heads cells ok = record {
   answer = grind (arith, common_steps);
   heads_keys = grind (arith, common_steps);
-  some_keys = grind (arith, common_steps);
-  few_keys = grind (arith, common_steps);
-  some_cells = grind (arith, common_steps);
-  few_cells = grind (arith, common_steps);
+  sizes = grind (arith, common_steps);
 }
 
 -- a store just made, as the calls that clear its heads and link its cells tell it
 pub record Making (keys h n : ℕ) (heads : List (Option ℕ)) (cells : List Cell) (unused : Option ℕ) : Type 0 where
   pub facts : Facts heads cells unused (length cells)
-  pub empty : chained heads cells ≡ made (chain_set_up keys h n) keys n
+  pub empty : store_of_chains heads cells ≡ new_store (chain_set_up keys h n) keys n
 
 pub making : (keys h n : ℕ) (heads : List (Option ℕ)) (cells : List Cell) (unused : Option ℕ) → is_err (chain_set_up keys h n) ≡ false → heads ≡ no_heads h → cells ≡ laid n → unused ≡ before n → Making keys h n heads cells unused
 making keys h n heads cells unused ok is-heads is-cells is-unused =
     let p = passed keys h n ok in
-    let none = ne_eqb keys 0 (λ e. omega (arith, p.some_keys)) in
-    let none' = ne_eqb n 0 (λ e. omega (arith, p.some_cells)) in
+    let limits = set_up_limits keys n p.sizes in
     let long : length cells ≡ n = ap length is-cells ∙ length_laid n in
     let e : heads ≡ no_heads keys = is-heads ∙ ap no_heads p.heads_keys in
-    let f = facts_laid keys n p.few_keys p.few_cells (none ∙ sym none') in
+    let f = facts_laid keys n limits.few_keys limits.few_cells limits.both in
     record {
       facts = rw (long, e, is-cells, is-unused) f;
       empty = rw (e, is-cells, p.answer) (laid_means keys n);

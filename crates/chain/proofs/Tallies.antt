@@ -1,10 +1,12 @@
 -- How often an index stands in a list, and sums of numbers told by a function.
-use Rattle.std.proofs.Common.{◌≡◌, ℕ, zero, suc, ◌+◌, ◌<◌, ◌≤◌, List, [], ◌∷◌, ◌++◌, ap, ⊎_elim, arith}
+use Rattle.std.proofs.Common.{◌≡◌, ℕ, zero, suc, ◌+◌, ◌<◌, ◌≤◌, cond, eqb, List, ◌∷◌, ◌++◌, arith}
+use Rattle.std.proofs.lemmas.List.Sums.{sum_by-append, sum_by-cons}
 use Rattle.std.proofs.lemmas.Grind.{common_steps}
-use Rattle.std.proofs.lemmas.Bool.{cases_eq}
 use Rattle.versions.specs.Meaning.{sum_below}
-use Rattle.versions.proofs.Lists.{sum_same}
 use Rattle.chain.specs.Links.{times, Once}
+
+pub times_cons : (i j : ℕ) (js : List ℕ) → times i (j ∷ js) ≡ cond (eqb i j) 1 0 + times i js
+times_cons i j js = sum_by-cons (λ k. cond (eqb i k) 1 0) j js
 
 pub times_self : (i : ℕ) (is : List ℕ) → times i (i ∷ is) ≡ suc (times i is)
 times_self i is = grind (arith, common_steps)
@@ -13,15 +15,14 @@ pub times_none : (i j : ℕ) (js : List ℕ) → times i (j ∷ js) ≡ 0 → (j
 times_none i j js none = (grind (arith, common_steps), grind (arith, common_steps))
 
 pub times_append : (i : ℕ) (is js : List ℕ) → times i (is ++ js) ≡ times i is + times i js
-times_append i [] js = omega arith
-times_append i (k ∷ is) js = let more = times_append i is js in omega arith
+times_append i is js = sum_by-append (λ j. cond (eqb i j) 1 0) is js
 
 -- the first of a list stands nowhere else in it
 pub once_first : (i : ℕ) (is : List ℕ) → Once (i ∷ is) → times i is ≡ 0
 once_first i is once = omega (arith, once i, times_self i is)
 
 pub once_rest : (i : ℕ) (is : List ℕ) → Once (i ∷ is) → Once is
-once_rest i is once j = let o = once j in omega arith
+once_rest i is once j = omega (arith, once j, times_cons j i is)
 
 -- one of the numbers, and two of them, are no more than the sum
 pub sum_has : (n : ℕ) (f : ℕ → ℕ) (k : ℕ) → k < n → f k ≤ sum_below n f
@@ -31,12 +32,3 @@ sum_has (suc n) f k low = let rest = sum_has n f k in grind (arith, common_steps
 pub sum_two : (n : ℕ) (f : ℕ → ℕ) (j k : ℕ) → j < n → k < n → (j ≡ k → ⊥) → f j + f k ≤ sum_below n f
 sum_two zero f j k low low' apart = absurd (omega arith)
 sum_two (suc n) f j k low low' apart = let rest = sum_two n f j k in grind (arith, common_steps, rest, sum_has n f j, sum_has n f k)
-
--- the sum after one of the numbers has changed
-pub sum_change : (n : ℕ) (f g : ℕ → ℕ) (k : ℕ) → k < n → ((j : ℕ) → (k ≡ j → ⊥) → g j ≡ f j) → sum_below n g + f k ≡ sum_below n f + g k
-sum_change zero f g k low same = absurd (omega arith)
-sum_change (suc n) f g k low same =
-    ⊎_elim
-    (λ (e : k ≡ n). omega (arith, ap f e, ap g e, sum_same n g f (λ j below. same j (omega arith))))
-    (λ (e : k ≡ n → ⊥). omega (arith, same n e, sum_change n f g k (omega arith) same))
-    (cases_eq k n)

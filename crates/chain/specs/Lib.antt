@@ -1,3 +1,4 @@
+pub mod Faults
 pub mod Links
 pub mod Store
 pub mod ChainStores

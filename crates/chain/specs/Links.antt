@@ -1,5 +1,8 @@
 -- Lists of cells, each told by the indices of its cells from a link on.
-use Rattle.std.specs.Prelude.{◌≡◌, ℕ, zero, suc, ◌+◌, ◌≤◌, Bool, true, false, if◌then◌else◌, ◌&&◌, List, [], ◌∷◌, ◌++◌, length, Some, None, Option, ◌==◌, nat_lt, slice_index_or, slice_set}
+use Rattle.std.specs.Prelude.{◌≡◌, ℕ, zero, suc, ◌≤◌, Bool, true, false, ◌&&◌, List, [], ◌∷◌, ◌++◌, length, Some, None, Option, ◌==◌, nat_lt, slice_index_or, slice_set}
+use Rattle.std.specs.List.{count_by, find}
+use Rattle.std.specs.Option.{option_map_or, option_and_then}
+use Rattle.versions.specs.Meaning.{Revision, base}
 use Rattle.versions.specs.declared.store.Version.{Version}
 use Rattle.chain.specs.declared.cell.Cell.{Cell}
 
@@ -35,41 +38,38 @@ Ends cells link = ends cells (length cells) link ≡ true
 
 -- how often an index stands in a list
 abbrev pub times : ℕ → List ℕ → ℕ
-times i [] = 0
-times i (j ∷ js) = (if i == j then 1 else 0) + times i js
+times i is = count_by (λ j. i == j) is
 
 -- no index stands in the list twice
 abbrev pub Once : List ℕ → Type 0
 Once is = (i : ℕ) → times i is ≤ 1
 
-abbrev pub version_at : List Cell → ℕ → ℕ × ℕ
-version_at cells i = ((cell_at cells i).stamp, (cell_at cells i).value)
+-- the version that a cell holds
+abbrev pub content_of : Cell → Revision
+content_of cell = record { stamp = cell.stamp; value = cell.value }
 
--- stamp and value at a link; those of the base version at none
-abbrev pub version_of : List Cell → Option ℕ → ℕ × ℕ
-version_of cells None = (0, 0)
-version_of cells (Some i) = version_at cells i
+abbrev pub version_at : List Cell → ℕ → Revision
+version_at cells i = content_of (cell_at cells i)
 
-abbrev pub inside : List Cell → Option ℕ → Bool
-inside cells None = true
-inside cells (Some i) = nat_lt i (length cells)
+-- the version at a link; the base version at none
+abbrev pub version_of : List Cell → Option ℕ → Revision
+version_of cells link = option_map_or (version_at cells) link base
 
 -- the first of these cells whose stamp is below a tick
 abbrev pub first_below : ℕ → List Cell → List ℕ → Option ℕ
-first_below tick cells [] = None
-first_below tick cells (i ∷ is) = if nat_lt (cell_at cells i).stamp tick then Some i else first_below tick cells is
+first_below tick cells is = find (λ i. nat_lt (cell_at cells i).stamp tick) is
 
 -- where the list goes on behind a cell
 abbrev pub behind : List Cell → Option ℕ → Option ℕ
-behind cells None = None
-behind cells (Some i) = (cell_at cells i).next
+behind cells link = option_and_then (λ i. (cell_at cells i).next) link
 
 -- the cells with a list ended at a cell
 abbrev pub ended_at : List Cell → Option ℕ → List Cell
-ended_at cells None = cells
-ended_at cells (Some i) = slice_set cells i (record { stamp = (cell_at cells i).stamp; value = (cell_at cells i).value; next = None })
+ended_at cells link =
+    option_map_or (λ i. slice_set cells i (record (cell_at cells i) { next = None })) link cells
 
--- the cells after these, in turn, were cleared and put in front of the list at a link, and the link to that list
+-- the cells after these, in turn, were cleared and put in front of the list at a link,
+-- and the link to that list
 abbrev pub given_back : List Cell → List ℕ → Option ℕ → List Cell × Option ℕ
 given_back cells [] unused = (cells, unused)
 given_back cells (i ∷ is) unused = given_back (slice_set cells i (cleared unused)) is (Some i)

@@ -2,5 +2,8 @@
 #![tactic(auto)]
 
 pub mod cell;
+pub mod fault;
 mod links;
 pub mod store;
+#[cfg(test)]
+mod tests;

@@ -1,9 +1,10 @@
 // Cells name each other by index, since the engine and what is below it have no heap: all memory is lent.
 // Functions over lent slices and no methods of the store: while links are moved, its ghost fields do not hold.
-ghost use Rattle.std.specs.Prelude.{◌≡◌, ◌^◌, ◌<◌, true, map, length, replicate, Some, None, slice_index_or, slice_set};
-ghost use Rattle.versions.specs.Meaning.{as_of};
-ghost use Rattle.chain.specs.Links.{Ends, Once, list_from, inside, version_at, version_of, first_below, behind, ended_at, given_back, cell_at, filled, before, laid};
-ghost use Rattle.chain.specs.Store.{Sound, Falling, Pruned};
+ghost use Rattle.std.specs.Prelude.{◌≡◌, ◌^◌, ◌<◌, map, length, Some, None, slice_index_or, slice_set};
+ghost use Rattle.std.specs.Option.{ForSome};
+ghost use Rattle.versions.specs.Meaning.{as_of, Falling, pair_of};
+ghost use Rattle.chain.specs.Links.{Ends, Once, list_from, version_at, version_of, first_below, behind, ended_at, given_back, cell_at, filled, before, laid};
+ghost use Rattle.chain.specs.Store.{Sound, Pruned, chain_versions};
 
 use crate::cell::{Cell, Link};
 use versions::store::Version;
@@ -28,8 +29,8 @@ pub fn link_all(cells: &mut [Cell]) -> Link
 
 /// Stamp and value at a link, or those of the base version.
 pub fn version(cells: &[Cell], link: Link) -> (u32, u64)
-    requires { inside cells.now link ≡ true }
-    ensures { result ≡ version_of cells.now link }
+    requires { ForSome link (λ i. i < length cells.now) }
+    ensures { result ≡ pair_of (version_of cells.now link) }
 {
     link.map_or((0, 0), |i| {
         let cell = cells[usize::from(i)];
@@ -57,7 +58,8 @@ pub fn find_below(cells: &[Cell], from: Link, tick: u32) -> Link
 /// Stamp and value of the newest version below the tick in the list from a link on.
 pub fn version_below(cells: &[Cell], from: Link, tick: u32) -> (u32, u64)
     requires { Ends cells.now from }
-    ensures { result ≡ as_of tick (map (version_at cells.now) (list_from cells.now from)) }
+    ensures { result ≡ pair_of (as_of tick
+        (map (version_at cells.now) (list_from cells.now from))) }
 {
     let found = find_below(cells, from, tick);
     version(cells, found)
@@ -120,11 +122,11 @@ pub fn give_back(cells: &mut [Cell], from: Link, unused: Link) -> (Link, u16)
     (unused, count)
 }
 
-/// Cuts the dead versions off every key's chain and gives their cells back.
+/// Cuts the outdated versions off every key's chain and gives their cells back.
 /// Answers the link to the unused cells, and how many came to them.
 pub fn prune_chains(heads: &[Link], cells: &mut [Cell], unused: Link, horizon: u32) -> (Link, u16)
     requires sound { Sound heads.now cells.old unused }
-    requires falling { Falling heads.now cells.old }
+    requires falling { Falling (chain_versions heads.now cells.old) }
     requires few { length cells.old < 2 ^ 16 }
     ensures { Pruned horizon heads.now cells.old cells.new result.0 result.1 }
 {

@@ -1,9 +1,12 @@
 ghost use Rattle.std.specs.Prelude.{◌≡◌, ◌+◌, ◌≤◌, length, replicate, None, ◌==◌};
-ghost use Rattle.versions.specs.Meaning.{kept, made};
+ghost use Rattle.stamped.specs.declared.TheConstants.{MAX_KEYS};
+ghost use Rattle.versions.specs.declared.store.TheConstants.{MAX_CELLS};
+ghost use Rattle.versions.specs.Meaning.{kept, new_store, Falling};
 ghost use Rattle.chain.specs.Links.{Ends, before, laid};
-ghost use Rattle.chain.specs.Store.{chained, ChainsEnd, NoneShared, AllHeld, Falling, chain_set_up, head_answer};
+ghost use Rattle.chain.specs.Store.{store_of_chains, ChainsEnd, NoneShared, AllHeld, chain_set_up, head_answer, chain_versions};
 
 use crate::cell::{Cell, Link};
+use crate::fault::ChainFault;
 use crate::links::{link_all, prune_chains, push, version, version_below};
 use versions::fault::StoreFault;
 use versions::store::{Version, VersionStore, check_sizes};
@@ -15,27 +18,27 @@ pub struct ChainStore<'h, 'c> {
     cells: &'c mut [Cell],
     unused: Link,
     free: usize,
-    ghost few: { length heads.now ≤ 1024 },
-    ghost small: { length cells.now ≤ 2048 },
+    ghost few: { length heads.now ≤ MAX_KEYS },
+    ghost small: { length cells.now ≤ MAX_CELLS },
     ghost both: { (length heads.now == 0) ≡ (length cells.now == 0) },
     ghost chains: { ChainsEnd heads.now cells.now },
     ghost rest: { Ends cells.now unused },
     ghost shared: { NoneShared heads.now cells.now unused },
     ghost held: { AllHeld heads.now cells.now unused },
-    ghost counted: { kept (chained heads.now cells.now) + free ≡ length cells.now },
-    ghost falling: { Falling heads.now cells.now },
+    ghost counted: { kept (store_of_chains heads.now cells.now) + free ≡ length cells.now },
+    ghost falling: { Falling (chain_versions heads.now cells.now) },
 }
 
 impl<'h, 'c> ChainStore<'h, 'c> {
     ghost use Rattle.chain.specs.ChainStores.{heads_of, cells_of, unused_of, chain_meaning};
 
     /// Whether a chain store can be made with so many keys over so many heads and cells.
-    pub fn check(keys: u16, heads: usize, cells: usize) -> Result<(), StoreFault>
+    pub fn check(keys: u16, heads: usize, cells: usize) -> Result<(), ChainFault>
         ensures { result ≡ chain_set_up keys heads cells }
     {
         check_sizes(keys, cells)?;
         if heads != usize::from(keys) {
-            return Err(StoreFault::Heads(heads));
+            return Err(ChainFault::Heads { heads });
         }
         Ok(())
     }
@@ -43,7 +46,7 @@ impl<'h, 'c> ChainStore<'h, 'c> {
     /// An empty store with all cells cleared and unused; one without keys and cells where the check refuses.
     pub fn make(keys: u16, heads: &'h mut [Link], cells: &'c mut [Cell]) -> ChainStore<'h, 'c>
         ensures empty { chain_meaning result ≡
-            made (chain_set_up keys (length heads.old) (length cells.old)) keys (length cells.old) }
+            new_store (chain_set_up keys (length heads.old) (length cells.old)) keys (length cells.old) }
         ensures cleared { (heads_of result ≡ replicate (length (heads_of result)) None) ×
             (cells_of result ≡ laid (length (cells_of result))) }
         ensures unused { unused_of result ≡ before (length (cells_of result)) }
@@ -75,7 +78,7 @@ impl<'h, 'c> ChainStore<'h, 'c> {
         self.heads
             .get(usize::from(key))
             .copied()
-            .ok_or(StoreFault::KeyOutside(key))
+            .ok_or(StoreFault::KeyOutside { key })
     }
 }
 
@@ -104,9 +107,9 @@ impl<'h, 'c> VersionStore for ChainStore<'h, 'c> {
     fn add(&mut self, key: u16, stamp: u32, value: u64) -> Result<(), StoreFault> {
         let (newest, _) = self.newest(key)?;
         if stamp <= newest {
-            return Err(StoreFault::StaleStamp(key));
+            return Err(StoreFault::StaleStamp { key });
         }
-        let cell = self.unused.ok_or(StoreFault::Full(key))?;
+        let cell = self.unused.ok_or(StoreFault::Full { key })?;
         self.unused = push(self.heads, self.cells, cell, Version { key, stamp, value });
         self.free -= 1;
         Ok(())

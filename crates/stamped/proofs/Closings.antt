@@ -1,6 +1,6 @@
 -- A loop that moves the records that stay to the front of a slice, and what it leaves.
-use Rattle.std.proofs.Common.{◌≡◌, ℕ, ◌+◌, ◌<◌, ◌≤◌, Bool, true, false, cond, List, [], ◌∷◌, ◌++◌, length, get_or, take, drop, set, sym, refl, ap, ◌∙◌, ⊎_elim, append_assoc, append-nil, length-append, length-drop, arith}
-use Rattle.std.proofs.lemmas.Bool.{cases_Bool}
+use Rattle.std.proofs.Common.{◌≡◌, ℕ, ◌+◌, ◌<◌, ◌≤◌, Bool, true, false, cond, List, [], ◌∷◌, ◌++◌, length, get_or, take, drop, set, sym, refl, ap, ◌∙◌, append_assoc, append-nil, length-append, length-drop, arith}
+use Rattle.std.proofs.lemmas.Grind.{common_steps}
 use Rattle.std.proofs.lemmas.List.{drop_more, drop_all, take_more_set, drop-set-lt, length-set, length-take-le, take-append-drop}
 use Rattle.std.proofs.Math.Seq.{drop-drop}
 use Rattle.stamped.specs.Gaps.{closed, closed_places}
@@ -48,9 +48,7 @@ module _ {X : Type 0} (drops : X → List X → Bool) (xs ys : List X) (k i : �
 -- no more records stay than there were
 pub length-closed : {X : Type 0} (drops : X → List X → Bool) (xs : List X) → length (closed drops xs) ≤ length xs
 length-closed drops [] = omega arith
-length-closed drops (x ∷ xs) =
-    let rest = length-closed drops xs in
-    ⊎_elim (λ (t : drops x xs ≡ true). rw t (omega arith)) (λ (t : drops x xs ≡ false). rw t (omega arith)) (cases_Bool (drops x xs))
+length-closed drops (x ∷ xs) = grind (arith, common_steps, length-closed drops xs)
 
 -- a closing of gaps keeps the places
 pub room-closed : {X : Type 0} (drops : X → List X → Bool) (p : Packing X) → room (closed_packing drops p) ≡ room p

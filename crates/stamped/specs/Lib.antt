@@ -1,3 +1,4 @@
 pub mod Look
 pub mod Gaps
 pub mod Packing
+pub mod Sizes

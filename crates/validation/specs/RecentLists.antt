@@ -2,8 +2,8 @@
 use Rattle.std.specs.Prelude.{List}
 use Rattle.validation.specs.declared.entry.Entry.{Entry}
 use Rattle.validation.specs.declared.recent.RecentList.{RecentList}
-use Rattle.validation.specs.Meaning.{Meaning, Lawful}
-use Rattle.validation.specs.Recent.{listed}
+use Rattle.validation.specs.Meaning.{Stamps, Lawful}
+use Rattle.validation.specs.Recent.{list_stamps}
 
 -- its entries in the order of noting
 abbrev pub entries_of : RecentList → List Entry
@@ -13,8 +13,8 @@ entries_of l = l.entries.records
 abbrev pub places_behind : RecentList → List Entry
 places_behind l = l.entries.rest
 
-abbrev pub list_meaning : RecentList → Meaning
-list_meaning l = listed l.keys (entries_of l)
+abbrev pub list_meaning : RecentList → Stamps
+list_meaning l = list_stamps l.keys (entries_of l)
 
 pub list_lawful : (l : RecentList) → Lawful (list_meaning l)
 list_lawful l = l.few

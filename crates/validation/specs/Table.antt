@@ -1,7 +1,8 @@
 -- What a table of stamps means.
 use Rattle.std.specs.Prelude.{ℕ, ◌/◌, List, slice_index}
-use Rattle.validation.specs.Meaning.{Meaning}
+use Rattle.validation.specs.Meaning.{Stamps}
 
 -- keys that lie next to each other share a granule, so many each; the stamp of each granule in its place
-abbrev pub tabled : ℕ → ℕ → List ℕ → Meaning
-tabled keys grain stamps = record { keys = keys; granule = λ k. k / grain; stamp = λ g. slice_index stamps g }
+abbrev pub table_stamps : ℕ → ℕ → List ℕ → Stamps
+table_stamps keys grain stamps =
+    record { keys = keys; granule = λ k. k / grain; stamp = λ g. slice_index stamps g }

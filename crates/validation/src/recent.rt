@@ -1,11 +1,12 @@
 ghost use Rattle.std.specs.Prelude.{◌≡◌, ◌≤◌, [], length, replicate, ◌==◌, nat_lt};
+ghost use Rattle.stamped.specs.declared.TheConstants.{MAX_KEYS};
 ghost use Rattle.stamped.specs.Packing.{room};
-ghost use Rattle.validation.specs.Recent.{listed, stamp_in, Once, blank};
-ghost use Rattle.validation.specs.SetUp.{list_answer, made};
+ghost use Rattle.validation.specs.Recent.{stamp_in, Once, blank};
+ghost use Rattle.validation.specs.SetUp.{list_answer, new_stamps};
 
 pub use crate::entry::Entry;
-use crate::fault::ValidatorFault;
-use crate::validator::{MAX_KEYS, Validator};
+use crate::fault::{ListFault, ValidatorFault};
+use crate::validator::{Clash, MAX_KEYS, Validator};
 use stamped::closing::Drops;
 use stamped::looking::{Moment, find_last};
 use stamped::packed::Packed;
@@ -43,7 +44,7 @@ impl Drops<Entry> for Older {
 pub struct RecentList<'a> {
     keys: u16,
     entries: Packed<'a, Entry>,
-    ghost few: { keys ≤ 1024 },
+    ghost few: { keys ≤ MAX_KEYS },
     ghost places: { room entries ≡ keys },
     ghost once: { Once keys entries.records },
 }
@@ -52,14 +53,14 @@ impl<'a> RecentList<'a> {
     ghost use Rattle.validation.specs.RecentLists.{entries_of, places_behind, list_meaning};
 
     /// Whether a list can be made of so many keys over so many places.
-    pub fn check(keys: u16, places: usize) -> Result<(), ValidatorFault>
+    pub fn check(keys: u16, places: usize) -> Result<(), ListFault>
         ensures { result ≡ list_answer keys places }
     {
         if keys == 0 || keys > MAX_KEYS {
-            return Err(ValidatorFault::Keys(keys));
+            return Err(ListFault::Keys { keys });
         }
         if places != usize::from(keys) {
-            return Err(ValidatorFault::Places(places));
+            return Err(ListFault::Places { places });
         }
         Ok(())
     }
@@ -67,7 +68,7 @@ impl<'a> RecentList<'a> {
     /// An empty list over cleared entries; one without keys where the check refuses.
     pub fn make(keys: u16, entries: &'a mut [Entry]) -> RecentList<'a>
         ensures fresh { list_meaning result ≡
-            made (list_answer keys (length entries.old)) keys (λ k. k) }
+            new_stamps (list_answer keys (length entries.old)) keys (λ k. k) }
         ensures none { entries_of result ≡ [] }
         ensures clear { places_behind result ≡ replicate (length (places_behind result)) blank }
     {
@@ -106,7 +107,7 @@ impl<'a> Validator for RecentList<'a> {
 
     fn granule(&self, key: u16) -> Result<u16, ValidatorFault> {
         if key >= self.keys {
-            return Err(ValidatorFault::KeyOutside(key));
+            return Err(ValidatorFault::KeyOutside { key });
         }
         Ok(key)
     }
@@ -114,7 +115,7 @@ impl<'a> Validator for RecentList<'a> {
     fn note(&mut self, key: u16, stamp: u32) -> Result<(), ValidatorFault> {
         self.granule(key)?;
         if stamp < self.stamp_of(key) {
-            return Err(ValidatorFault::StaleStamp(key));
+            return Err(ValidatorFault::StaleStamp { key });
         }
         self.entries.close_gaps(&OfKey { key });
         // Each other key has one entry at most, so there is a place.
@@ -122,21 +123,19 @@ impl<'a> Validator for RecentList<'a> {
         Ok(())
     }
 
-    fn clash(
-        &self,
-        first: u16,
-        count: u16,
-        start: u32,
-    ) -> Result<Option<(u16, u32)>, ValidatorFault> {
+    fn clash(&self, first: u16, count: u16, start: u32) -> Result<Option<Clash>, ValidatorFault> {
         if u32::from(first) + u32::from(count) > u32::from(self.keys) {
-            return Err(ValidatorFault::KeyOutside(first));
+            return Err(ValidatorFault::KeyOutside { key: first });
         }
         let mut lowest = None;
         // Once a key is hit, only those below it matter.
         let mut end = first + count;
         for entry in self.entries.as_slice() {
             if entry.key >= first && entry.key < end && entry.stamp > start {
-                lowest = Some((entry.key, entry.stamp));
+                lowest = Some(Clash {
+                    key: entry.key,
+                    stamp: entry.stamp,
+                });
                 end = entry.key;
             }
         }

@@ -1,9 +1,10 @@
 ghost use Rattle.std.specs.Prelude.{◌≡◌, ◌/◌, ◌<◌, ◌≤◌, length, replicate};
-ghost use Rattle.validation.specs.SetUp.{granules, table_answer, made};
-ghost use Rattle.validation.specs.Table.{tabled};
+ghost use Rattle.std.specs.Int.{div_ceil};
+ghost use Rattle.stamped.specs.declared.TheConstants.{MAX_KEYS};
+ghost use Rattle.validation.specs.SetUp.{table_answer, new_stamps};
 
-use crate::fault::ValidatorFault;
-use crate::validator::{MAX_KEYS, Validator};
+use crate::fault::{TableFault, ValidatorFault};
+use crate::validator::{Clash, MAX_KEYS, Validator};
 
 /// One stamp for each granule over lent memory; a granule is `grain` keys that lie next to each other.
 #[derive(Drop)]
@@ -11,26 +12,26 @@ pub struct StampTable<'a> {
     keys: u16,
     grain: u16,
     stamps: &'a mut [u32],
-    ghost few: { keys ≤ 1024 },
+    ghost few: { keys ≤ MAX_KEYS },
     ghost some: { 0 < grain },
-    ghost places: { length stamps.now ≡ granules keys grain },
+    ghost places: { length stamps.now ≡ div_ceil keys grain },
 }
 
 impl<'a> StampTable<'a> {
-    ghost use Rattle.validation.specs.StampTables.{stamps_of, table_meaning};
+    ghost use Rattle.validation.specs.StampTables.{granule_stamps, table_meaning};
 
     /// Whether a table can be made of so many keys, so many to a granule, over so many places.
-    pub fn check(keys: u16, grain: u16, places: usize) -> Result<(), ValidatorFault>
+    pub fn check(keys: u16, grain: u16, places: usize) -> Result<(), TableFault>
         ensures { result ≡ table_answer keys grain places }
     {
         if keys == 0 || keys > MAX_KEYS {
-            return Err(ValidatorFault::Keys(keys));
+            return Err(TableFault::Keys { keys });
         }
         if grain == 0 || grain > keys {
-            return Err(ValidatorFault::Grain(grain));
+            return Err(TableFault::Grain { grain });
         }
         if places != usize::from(keys.div_ceil(grain)) {
-            return Err(ValidatorFault::Places(places));
+            return Err(TableFault::Places { places });
         }
         Ok(())
     }
@@ -38,8 +39,8 @@ impl<'a> StampTable<'a> {
     /// A table of cleared stamps; one without keys where the check refuses.
     pub fn make(keys: u16, grain: u16, stamps: &'a mut [u32]) -> StampTable<'a>
         ensures fresh { table_meaning result ≡
-            made (table_answer keys grain (length stamps.old)) keys (λ k. k / grain) }
-        ensures clear { stamps_of result ≡ replicate (length (stamps_of result)) 0 }
+            new_stamps (table_answer keys grain (length stamps.old)) keys (λ k. k / grain) }
+        ensures clear { granule_stamps result ≡ replicate (length (granule_stamps result)) 0 }
     {
         stamps.fill(0);
         if Self::check(keys, grain, stamps.len()).is_err() {
@@ -70,7 +71,7 @@ impl<'a> Validator for StampTable<'a> {
 
     fn granule(&self, key: u16) -> Result<u16, ValidatorFault> {
         if key >= self.keys {
-            return Err(ValidatorFault::KeyOutside(key));
+            return Err(ValidatorFault::KeyOutside { key });
         }
         Ok(key / self.grain)
     }
@@ -78,25 +79,20 @@ impl<'a> Validator for StampTable<'a> {
     fn note(&mut self, key: u16, stamp: u32) -> Result<(), ValidatorFault> {
         let granule = usize::from(self.granule(key)?);
         if stamp < self.stamps[granule] {
-            return Err(ValidatorFault::StaleStamp(key));
+            return Err(ValidatorFault::StaleStamp { key });
         }
         self.stamps[granule] = stamp;
         Ok(())
     }
 
-    fn clash(
-        &self,
-        first: u16,
-        count: u16,
-        start: u32,
-    ) -> Result<Option<(u16, u32)>, ValidatorFault> {
+    fn clash(&self, first: u16, count: u16, start: u32) -> Result<Option<Clash>, ValidatorFault> {
         if u32::from(first) + u32::from(count) > u32::from(self.keys) {
-            return Err(ValidatorFault::KeyOutside(first));
+            return Err(ValidatorFault::KeyOutside { key: first });
         }
         for key in first..first + count {
             let stamp = self.stamps[usize::from(key / self.grain)];
             if stamp > start {
-                return Ok(Some((key, stamp)));
+                return Ok(Some(Clash { key, stamp }));
             }
         }
         Ok(None)

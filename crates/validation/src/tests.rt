@@ -1,15 +1,22 @@
-use crate::fault::ValidatorFault;
 use crate::recent::{Entry, RecentList};
 use crate::table::StampTable;
-use crate::validator::Validator;
+use crate::validator::{Clash, Validator};
+use refusals::Refusal;
 use std::process::Abort;
 
 /// An answer with the number and the place of its fault: what the rules say of a refusal, not what it is called.
-fn told<T: Drop>(answer: Result<T, ValidatorFault>) -> Result<T, (u8, u64)> {
-    answer.map_err(|fault| (fault.number(), fault.place()))
+fn told<T: Drop, F: Refusal + Drop>(answer: Result<T, F>) -> Result<T, (u8, u64)> {
+    answer.map_err(|fault| {
+        let report = fault.report();
+        (report.number, report.place)
+    })
 }
 
-fn answered(rt: &impl Abort, answer: Result<(), ValidatorFault>, expected: Result<(), (u8, u64)>) {
+fn answered<F: Refusal + Drop>(
+    rt: &impl Abort,
+    answer: Result<(), F>,
+    expected: Result<(), (u8, u64)>,
+) {
     assert_eq!(rt; told(answer), expected);
 }
 
@@ -23,13 +30,17 @@ fn noted<V: Validator>(
     answered(rt, validator.note(key, stamp), answer);
 }
 
+fn clash_of(key: u16, stamp: u32) -> Option<Clash> {
+    Some(Clash { key, stamp })
+}
+
 fn clashes<V: Validator>(
     rt: &impl Abort,
     validator: &V,
     first: u16,
     count: u16,
     start: u32,
-    answer: Result<Option<(u16, u32)>, (u8, u64)>,
+    answer: Result<Option<Clash>, (u8, u64)>,
 ) {
     assert_eq!(rt; told(validator.clash(first, count, start)), answer);
 }
@@ -42,8 +53,8 @@ fn notes_and_clashes<V: Validator + Drop>(rt: &impl Abort, mut validator: V) {
     noted(rt, &mut validator, 4, 6, Err((16, 4)));
     noted(rt, &mut validator, 10, 9, Err((5, 10)));
     noted(rt, &mut validator, 2, 9, Ok(()));
-    clashes(rt, &validator, 0, 10, 6, Ok(Some((2, 9))));
-    clashes(rt, &validator, 3, 7, 6, Ok(Some((4, 7))));
+    clashes(rt, &validator, 0, 10, 6, Ok(clash_of(2, 9)));
+    clashes(rt, &validator, 3, 7, 6, Ok(clash_of(4, 7)));
     clashes(rt, &validator, 3, 7, 7, Ok(None));
     clashes(rt, &validator, 0, 0, 0, Ok(None));
     clashes(rt, &validator, 10, 0, 0, Ok(None));
@@ -57,7 +68,7 @@ fn trims<V: Validator + Drop>(rt: &impl Abort, mut validator: V) {
     noted(rt, &mut validator, 4, 7, Ok(()));
     noted(rt, &mut validator, 5, 3, Ok(()));
     validator.trim(6);
-    clashes(rt, &validator, 0, 10, 0, Ok(Some((4, 7))));
+    clashes(rt, &validator, 0, 10, 0, Ok(clash_of(4, 7)));
     clashes(rt, &validator, 5, 1, 0, Ok(None));
     validator.trim(7);
     assert_eq!(rt; validator.latest(), 7);
@@ -131,8 +142,8 @@ fn three_keys_are_a_granule(rt: HostRuntime) {
     assert_eq!(rt; told(table.granule(9)), Ok(3));
     noted(&rt, &mut table, 4, 5, Ok(()));
     noted(&rt, &mut table, 3, 4, Err((16, 3)));
-    clashes(&rt, &table, 0, 10, 4, Ok(Some((3, 5))));
-    clashes(&rt, &table, 5, 5, 4, Ok(Some((5, 5))));
+    clashes(&rt, &table, 0, 10, 4, Ok(clash_of(3, 5)));
+    clashes(&rt, &table, 5, 5, 4, Ok(clash_of(5, 5)));
     clashes(&rt, &table, 6, 4, 0, Ok(None));
 }
 
@@ -142,6 +153,6 @@ fn all_keys_are_a_granule(rt: HostRuntime) {
     let mut table = StampTable::make(10, 10, &mut stamps);
     assert_eq!(rt; told(table.granule(9)), Ok(0));
     noted(&rt, &mut table, 9, 2, Ok(()));
-    clashes(&rt, &table, 0, 1, 1, Ok(Some((0, 2))));
+    clashes(&rt, &table, 0, 1, 1, Ok(clash_of(0, 2)));
     clashes(&rt, &table, 0, 10, 2, Ok(None));
 }

@@ -1,12 +1,20 @@
 ghost use Rattle.std.specs.Prelude.{◌≡◌};
-ghost use Rattle.validation.specs.Meaning.{Meaning, Lawful, granule_answer, clash_answer, note_answer, noted, trimmed, latest};
 
 use crate::fault::ValidatorFault;
 pub use stamped::MAX_KEYS;
 
+/// A key, and the stamp of its granule, which is above the start that was asked about.
+#[derive(Clone, Copy, Debug, PartialEq, Eq)]
+pub struct Clash {
+    pub key: u16,
+    pub stamp: u32,
+}
+
 /// A number of keys, a granule for each key, and for each granule the stamp that was noted last.
 pub trait Validator {
-    ghost meaning: { Self → Meaning };
+    ghost use Rattle.validation.specs.Meaning.{Stamps, Lawful, granule_answer, clash_answer, note_answer, noted, trimmed, latest};
+
+    ghost meaning: { Self → Stamps };
 
     fn keys(&self) -> u16
         ensures { result ≡ (meaning self.now).keys };
@@ -21,14 +29,9 @@ pub trait Validator {
         ensures answer { result ≡ note_answer (meaning self.old) key stamp }
         ensures after { meaning self.new ≡ noted (meaning self.old) key stamp };
 
-    /// The lowest of the keys first, first + 1, .. whose granule has a stamp above the start, with that stamp.
+    /// The lowest of the keys first, first + 1, .. whose granule has a stamp above the start.
     // Two numbers, since the struct of a range is the ledger's, and a validator stands on no ledger.
-    fn clash(
-        &self,
-        first: u16,
-        count: u16,
-        start: u32,
-    ) -> Result<Option<(u16, u32)>, ValidatorFault>
+    fn clash(&self, first: u16, count: u16, start: u32) -> Result<Option<Clash>, ValidatorFault>
         ensures { result ≡ clash_answer (meaning self.now) first count start };
 
     /// Sets every stamp below the tick to 0.

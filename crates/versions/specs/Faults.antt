@@ -1,20 +1,17 @@
--- The number and the place of each refusal of a version store.
-use Rattle.std.specs.Prelude.{ℕ}
+-- What each refusal of a version store, the first layer, says.
+use Rattle.refusals.specs.declared.Report.{Report}
 use Rattle.versions.specs.declared.fault.StoreFault.{StoreFault}
-use Rattle.versions.specs.declared.fault.StoreFault.TheVariants.{Keys, Cells, Heads, KeyOutside, Full, StaleStamp}
+use Rattle.versions.specs.declared.fault.StoreFault.TheVariants.{KeyOutside, Full, StaleStamp}
+use Rattle.versions.specs.declared.fault.SizeFault.{SizeFault}
+use Rattle.versions.specs.declared.fault.SizeFault.TheVariants.{Keys, Cells}
 
-abbrev pub number_of : StoreFault → ℕ
-number_of (Keys k) = 1
-number_of (Cells n) = 3
-number_of (Heads n) = 3
-number_of (KeyOutside k) = 5
-number_of (Full k) = 15
-number_of (StaleStamp k) = 16
+-- of a call
+abbrev pub store_report : StoreFault → Report
+store_report (KeyOutside key) = record { layer = 1; number = 5; place = key }
+store_report (Full key) = record { layer = 1; number = 15; place = key }
+store_report (StaleStamp key) = record { layer = 1; number = 16; place = key }
 
-abbrev pub place_of : StoreFault → ℕ
-place_of (Keys k) = k
-place_of (Cells n) = n
-place_of (Heads n) = n
-place_of (KeyOutside k) = k
-place_of (Full k) = k
-place_of (StaleStamp k) = k
+-- of a set-up
+abbrev pub size_report : SizeFault → Report
+size_report (Keys keys) = record { layer = 1; number = 1; place = keys }
+size_report (Cells cells) = record { layer = 1; number = 3; place = cells }

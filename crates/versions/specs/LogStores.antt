@@ -3,8 +3,8 @@ use Rattle.std.specs.Prelude.{List}
 use Rattle.stamped.specs.Packing.{room}
 use Rattle.versions.specs.declared.store.Version.{Version}
 use Rattle.versions.specs.declared.log.LogStore.{LogStore}
-use Rattle.versions.specs.Meaning.{Meaning}
-use Rattle.versions.specs.Log.{logged}
+use Rattle.versions.specs.Meaning.{Store}
+use Rattle.versions.specs.Log.{store_of_log}
 
 -- its versions in the order of adding
 abbrev pub log_of : LogStore → List Version
@@ -14,5 +14,5 @@ log_of s = s.versions.records
 abbrev pub cells_behind : LogStore → List Version
 cells_behind s = s.versions.rest
 
-abbrev pub log_meaning : LogStore → Meaning
-log_meaning s = logged s.keys (room s.versions) (log_of s)
+abbrev pub log_meaning : LogStore → Store
+log_meaning s = store_of_log s.keys (room s.versions) (log_of s)

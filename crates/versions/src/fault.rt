@@ -1,51 +1,61 @@
-ghost use Rattle.std.specs.Prelude.{◌≡◌};
-ghost use Rattle.versions.specs.Faults.{number_of, place_of};
+use refusals::{Refusal, Report};
 
-/// Why a version store refuses.
-#[derive(Clone, Copy, Debug, PartialEq)]
+/// Version stores are the first layer.
+pub const LAYER: u8 = 1;
+
+/// Why a version store refuses a call.
+#[derive(Clone, Copy, Debug, PartialEq, Eq)]
 pub enum StoreFault {
-    /// The number of keys is outside its limits.
-    Keys(u16),
-    /// The number of cells is outside its limits.
-    Cells(usize),
-    /// The number of heads is not that of the keys.
-    Heads(usize),
     /// The store has no such key.
-    KeyOutside(u16),
+    KeyOutside { key: u16 },
     /// No cell is free for this key's version.
-    Full(u16),
+    Full { key: u16 },
     /// The stamp is not above the newest of this key.
-    StaleStamp(u16),
+    StaleStamp { key: u16 },
 }
 
-impl StoreFault {
-    /// Version stores are the first layer.
-    pub fn layer(&self) -> u8
-        ensures { result ≡ 1 }
-    {
-        1
-    }
+impl Refusal for StoreFault {
+    ghost use Rattle.versions.specs.Faults.{store_report};
 
-    pub fn number(&self) -> u8
-        ensures { result ≡ number_of self.now }
-    {
-        match *self {
-            StoreFault::Keys(_) => 1,
-            StoreFault::Cells(_) | StoreFault::Heads(_) => 3,
-            StoreFault::KeyOutside(_) => 5,
-            StoreFault::Full(_) => 15,
-            StoreFault::StaleStamp(_) => 16,
+    ghost reported = { store_report };
+
+    fn report(&self) -> Report {
+        let (number, key) = match *self {
+            StoreFault::KeyOutside { key } => (5, key),
+            StoreFault::Full { key } => (15, key),
+            StoreFault::StaleStamp { key } => (16, key),
+        };
+        Report {
+            layer: LAYER,
+            number,
+            place: u64::from(key),
         }
     }
+}
 
-    pub fn place(&self) -> u64
-        ensures { result ≡ place_of self.now }
-    {
-        match *self {
-            StoreFault::Keys(keys) => u64::from(keys),
-            StoreFault::Cells(length) | StoreFault::Heads(length) => length as u64,
-            StoreFault::KeyOutside(key) | StoreFault::Full(key) | StoreFault::StaleStamp(key) =>
-                u64::from(key),
+/// Why a version store cannot be set up with such sizes.
+#[derive(Clone, Copy, Debug, PartialEq, Eq)]
+pub enum SizeFault {
+    /// The number of keys is outside its limits.
+    Keys { keys: u16 },
+    /// The number of cells is outside its limits.
+    Cells { cells: usize },
+}
+
+impl Refusal for SizeFault {
+    ghost use Rattle.versions.specs.Faults.{size_report};
+
+    ghost reported = { size_report };
+
+    fn report(&self) -> Report {
+        let (number, place) = match *self {
+            SizeFault::Keys { keys } => (1, u64::from(keys)),
+            SizeFault::Cells { cells } => (3, cells as u64),
+        };
+        Report {
+            layer: LAYER,
+            number,
+            place,
         }
     }
 }

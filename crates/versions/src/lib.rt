@@ -4,3 +4,5 @@
 pub mod fault;
 pub mod log;
 pub mod store;
+#[cfg(test)]
+mod tests;

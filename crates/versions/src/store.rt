@@ -1,7 +1,7 @@
 ghost use Rattle.std.specs.Prelude.{◌≡◌};
-ghost use Rattle.versions.specs.Meaning.{Meaning, Lawful, kept, free, newest_answer, as_of_answer, add_answer, added, pruned_count, pruned, set_up_answer};
+ghost use Rattle.versions.specs.Meaning.{Store, Lawful, kept, free, newest_answer, as_of_answer, add_answer, added, pruned_count, pruned, set_up_answer};
 
-use crate::fault::StoreFault;
+use crate::fault::{SizeFault, StoreFault};
 pub use stamped::MAX_KEYS;
 use stamped::Stamped;
 
@@ -9,14 +9,14 @@ use stamped::Stamped;
 pub const MAX_CELLS: usize = 2048;
 
 /// Whether a store can have so many keys and so many cells.
-pub fn check_sizes(keys: u16, cells: usize) -> Result<(), StoreFault>
+pub fn check_sizes(keys: u16, cells: usize) -> Result<(), SizeFault>
     ensures { result ≡ set_up_answer keys cells }
 {
     if keys == 0 || keys > MAX_KEYS {
-        return Err(StoreFault::Keys(keys));
+        return Err(SizeFault::Keys { keys });
     }
     if cells == 0 || cells > MAX_CELLS {
-        return Err(StoreFault::Cells(cells));
+        return Err(SizeFault::Cells { cells });
     }
     Ok(())
 }
@@ -55,7 +55,7 @@ impl Stamped for Version {
 /// A number of keys, a number of cells, and for each key its versions, newest first, one cell each.
 /// Each key also has a base version, stamp 0 and value 0, that takes no cell.
 pub trait VersionStore {
-    ghost meaning: { Self → Meaning };
+    ghost meaning: { Self → Store };
 
     fn keys(&self) -> u16
         ensures { result ≡ (meaning self.now).keys };
@@ -74,7 +74,7 @@ pub trait VersionStore {
         ensures answer { result ≡ add_answer (meaning self.old) key stamp }
         ensures after { meaning self.new ≡ added (meaning self.old) key stamp value };
 
-    /// Removes the versions that are dead under the horizon, and answers how many.
+    /// Removes the versions that are outdated under the horizon, and answers how many.
     fn prune(&mut self, horizon: u32) -> u16
         ensures count { result ≡ pruned_count (meaning self.old) horizon }
         ensures after { meaning self.new ≡ pruned (meaning self.old) horizon };

@@ -1,4 +1,5 @@
-use Rattle.std.proofs.Common.{ap, ◌∙◌}
+use Rattle.std.proofs.Common.{ℕ, Option, ap, ◌∙◌}
+use Rattle.versions.specs.Meaning.{pair_of}
 use Rattle.chain.specs.Links.{list_from, version_of}
 use Rattle.chain.proofs.Chains.{first_inside}
 use Rattle.chain.proofs.Adds.{as_of_first}
@@ -10,5 +11,5 @@ version-requires c = first_inside c.args.tick c.args.cells.now c.args.from c.fin
 pub returns : goal.returns
 returns c =
     c.version.ensures
-    ∙ ap (version_of c.args.cells.now) c.find_below-found.ensures
-    ∙ as_of_first c.args.tick c.args.cells.now (list_from c.args.cells.now c.args.from)
+    ∙ ap (λ (o : Option ℕ). pair_of (version_of c.args.cells.now o)) c.find_below-found.ensures
+    ∙ ap pair_of (as_of_first c.args.tick c.args.cells.now (list_from c.args.cells.now c.args.from))

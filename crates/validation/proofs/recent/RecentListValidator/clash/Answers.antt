@@ -1,6 +1,6 @@
 use Rattle.std.proofs.Common.{◌≡◌, ◌+◌, ◌<◌, List, length, get_or, sym, ap, arith}
 use Rattle.validation.specs.declared.entry.Entry.{Entry}
-use Rattle.validation.specs.Recent.{listed, blank}
+use Rattle.validation.specs.Recent.{list_stamps, blank}
 use Rattle.validation.proofs.Answering.{clash_answered}
 use Rattle.validation.proofs.Recents.{looked_hit, looked_miss, looked_all}
 use Rattle.validation.proofs.recent.RecentListValidator.clash.Goals as goal
@@ -32,4 +32,4 @@ returns c =
     let es = s.entries.records in
     let l = c.loop-entry in
     let all = ap length c.as_slice-entry-items.ensures in
-    clash_answered (listed s.keys es) c.args.start c.args.first c.args.count l.lowest (omega arith) (looked_all s.keys es s.once c.args.start c.args.first (c.args.first + c.args.count) l.end l.lowest l.entry-index l.invariant (omega arith))
+    clash_answered (list_stamps s.keys es) c.args.start c.args.first c.args.count l.lowest (omega arith) (looked_all s.keys es s.once c.args.start c.args.first (c.args.first + c.args.count) l.end l.lowest l.entry-index l.invariant (omega arith))

@@ -1,8 +1,9 @@
 use Rattle.std.proofs.Common.{◌≤◌, length, eqb, sym, ap, ◌∙◌, arith}
 use Rattle.stamped.specs.Packing.{Packing, room, closed_packing}
 use Rattle.stamped.proofs.Closings.{length-closed, room-closed}
+use Rattle.versions.specs.declared.store.TheConstants.{MAX_CELLS}
 use Rattle.versions.specs.declared.store.Version.{Version}
-use Rattle.versions.specs.Log.{superseded}
+use Rattle.versions.specs.Log.{outdated_by}
 use Rattle.versions.proofs.Logs.{log_lawful}
 use Rattle.versions.proofs.Closings.{closed_known, closed_falling, closed_pruned, closed_count}
 use Rattle.versions.proofs.log.LogStoreVersionStore.prune.Goals as goal
@@ -10,18 +11,18 @@ use Rattle.versions.proofs.log.LogStoreVersionStore.prune.Goals as goal
 pub invariant_of-self : goal.invariant_of-self
 invariant_of-self c =
     let s = c.args.self.now in
-    let drops = superseded c.args.horizon in
+    let drops = outdated_by c.args.horizon in
     let n = closed_packing drops s.versions in
     let places = room-closed drops s.versions in
     let known = closed_known c.args.horizon s.versions.records s.lawful.falling s.keys s.known in
     let falling = closed_falling c.args.horizon s.versions.records s.lawful.falling in
-    let few : room n ≤ 2048 = rw places s.lawful.few_cells in
+    let few : room n ≤ MAX_CELLS = rw places s.lawful.few_cells in
     rw c.close_gaps.ensures (record { known = known; lawful = log_lawful s.keys n s.lawful.few_keys few (s.lawful.both ∙ ap (λ r. eqb r 0) (sym places)) known falling })
 
 pub overflow_sub-result : goal.overflow_sub-result
 overflow_sub-result c =
     let s = c.args.self.now in
-    let few = length-closed (superseded c.args.horizon) s.versions.records in
+    let few = length-closed (outdated_by c.args.horizon) s.versions.records in
     omega (arith, few, ap length c.as_slice-left.ensures, ap length c.as_slice-used.ensures, ap (λ (p : Packing Version). length p.records) c.close_gaps.ensures)
 
 pub returns-clause-count : goal.returns-clause-count
@@ -32,4 +33,4 @@ returns-clause-count c =
 pub returns-clause-after : goal.returns-clause-after
 returns-clause-after c =
     let s = c.args.self.now in
-    rw (c.close_gaps.ensures, room-closed (superseded c.args.horizon) s.versions) (closed_pruned c.args.horizon s.versions.records s.lawful.falling s.keys (room s.versions))
+    rw (c.close_gaps.ensures, room-closed (outdated_by c.args.horizon) s.versions) (closed_pruned c.args.horizon s.versions.records s.lawful.falling s.keys (room s.versions))
