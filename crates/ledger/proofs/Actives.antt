@@ -4,8 +4,9 @@ use Rattle.std.specs.List.{AllByRecursion}
 use Rattle.std.proofs.ByRecursion.{All-weaker}
 use Rattle.std.proofs.lemmas.Bool.{eqb-true, eqb-false, cond_both}
 use Rattle.ledger.specs.declared.Kind.{Kind}
+use Rattle.ledger.specs.declared.Call.{Call}
 use Rattle.ledger.specs.Ledger.{Transaction, found, least_start}
-use Rattle.ledger.specs.Calls.{without, changed, joins, joined}
+use Rattle.ledger.specs.Calls.{without, changed, joins, joined, having_made}
 use Rattle.ledger.specs.Orderly.{Apart}
 
 -- a change that keeps a transaction's handle and its kind
@@ -22,11 +23,16 @@ change_keeps h f k = record {
   kind = λ u. cond_both (eqb u.start h) (f u) u (λ x. x.kind ≡ u.kind) (λ _. k.kind u) (λ _. refl);
 }
 
-pub joined_keeps : (k n : ℕ) → Keeps (λ t. joined t k n)
+joined_keeps : (k n : ℕ) → Keeps (λ t. joined t k n)
 joined_keeps k n = record {
   start = λ t. cond_both (joins t k n) _ t (λ u. u.start ≡ t.start) (λ _. refl) (λ _. refl);
   kind = λ t. cond_both (joins t k n) _ t (λ u. u.kind ≡ t.kind) (λ _. refl) (λ _. refl);
 }
+
+-- so is what a call makes of its transaction
+pub call_keeps : (c : Call) → Keeps (λ t. having_made t c)
+call_keeps (Call.Read h k n) = joined_keeps k n
+call_keeps _ = record { start = λ t. refl; kind = λ t. refl }
 
 pub joined_writes : (t : Transaction) (k n : ℕ) → (joined t k n).writes ≡ t.writes
 joined_writes t k n = cond_both (joins t k n) _ t (λ u. u.writes ≡ t.writes) (λ _. refl) (λ _. refl)

@@ -1,47 +1,64 @@
 -- Every ledger that calls lead to is orderly, and what follows.
-use Rattle.std.proofs.Common.{◌≡◌, ℕ, ◌+◌, ◌<◌, ◌≤◌, true, false, cond, ◌&&◌, ltb, leb, ◌⊎◌, List, [], ◌∷◌, map, length, Some, None, filter, sym, refl, ap, ◌∙◌, ⊎_elim, arith}
+use Rattle.std.proofs.Common.{◌≡◌, ℕ, ◌<◌, ◌≤◌, false, ltb, ◌⊎◌, List, [], ◌∷◌, ◌++◌, Some, Ok, Err, Result, sym, refl, ap, ◌∙◌, subst, ⊎_elim, arith}
 use Rattle.std.specs.List.{AllByRecursion}
-use Rattle.std.proofs.lemmas.Bool.{le-leb, le-ltb}
+use Rattle.std.proofs.lemmas.Bool.{le-ltb}
 use Rattle.ledger.specs.declared.Fault.{Fault}
-use Rattle.ledger.specs.declared.Fault.TheVariants.{TooManyActive, ClockSpent}
-use Rattle.ledger.specs.declared.Answer.TheVariants.{Began, Reclaimed, Refused}
 use Rattle.ledger.specs.declared.Call.{Call}
-use Rattle.ledger.specs.declared.Call.TheVariants.{Begin, Read, Write, Commit, Abort, Reclaim}
-use Rattle.ledger.specs.Ledger.{Limits, Transaction, Version, Ledger, found, is_reader, horizon, dead}
-use Rattle.ledger.specs.Calls.{Outcome, step, refused, out_of_ticks, opened, read_by, write_by, commit_by, abort_by}
-use Rattle.ledger.specs.Reach.{Reached, made, next}
-use Rattle.ledger.specs.History.{Made, after}
-use Rattle.ledger.specs.Orderly.{Fine, Sound, Dated, Tidy}
+use Rattle.ledger.specs.Ledger.{Limits, Transaction, Version, Ledger, found, is_reader}
+use Rattle.ledger.specs.Calls.{Outcome, Effect, step, outcome, effect_of, reclaimed}
+use Rattle.ledger.specs.Reach.{Reached, new, next}
+use Rattle.ledger.specs.History.{Made, Deed, deed, deed_of, after, Told}
+use Rattle.ledger.specs.Orderly.{Fine, Sound, Dated, Orderly}
 use Rattle.ledger.specs.Laws.{OrderLaw, DeathLaw, RefusalLaw, IdleLaw, idle_answer}
 use Rattle.ledger.proofs.Actives.{all_found}
-use Rattle.ledger.proofs.Sounds.{sound_after}
-use Rattle.ledger.proofs.Dates.{dated_after}
-use Rattle.ledger.proofs.Tidies.{tidy_after}
-use Rattle.ledger.proofs.Deaths.{clear, dead_later, ages}
-use Rattle.ledger.proofs.Ways.{Way, refusing, beginning, reading, writing, closing, losing, committing, aborting, reclaiming, way}
+use Rattle.ledger.proofs.SoundActives.{sound_reclaimed, sound_made}
+use Rattle.ledger.proofs.DatedVersions.{dated_reclaimed, dated_made}
+use Rattle.ledger.proofs.SafeReclaims.{safe_reclaimed, safe_made}
+use Rattle.ledger.proofs.Deaths.{dead_later, ages}
+use Rattle.ledger.proofs.Steps.{Makes, Course, kept, course_of}
 
-pub sound : {l : Ledger} → Reached l → Sound l
-sound (made n) = record { fine = tt; apart = tt; few = omega arith }
-sound (next {l = l} c b r) = sound_after (sound r) (way l c b)
+pub order_reclaimed : (l : Ledger) → Orderly l → Orderly (reclaimed l)
+order_reclaimed l o = record { sound = sound_reclaimed l o.sound; dated = dated_reclaimed l o.dated; safe = safe_reclaimed l o.safe }
 
-pub dated : {l : Ledger} → Reached l → Dated l
-dated (made n) = record { ticks = omega arith; late = tt; stamps = tt; keys = tt; falling = tt; strict = tt; unlike = tt }
-dated (next {l = l} c b r) = dated_after (sound r) (dated r) (way l c b)
+order_made : (l m : Ledger) (d : Deed) → Orderly l → Makes l d m → Orderly m
+order_made l m d o s = record { sound = sound_made l m d o.sound s; dated = dated_made l m d o.sound o.dated s; safe = safe_made l m d o.safe s }
 
-pub tidy : {l : Ledger} → Reached l → Tidy l
-tidy (made n) = record { removed = tt; cells = omega arith; trims = tt; trimmed_by = omega arith }
-tidy (next {l = l} c b r) = tidy_after (tidy r) (way l c b)
+pub order : {l : Ledger} → Reached l → Orderly l
+order (new n) = record {
+  sound = record { fine = tt; apart = tt; few = omega arith };
+  dated = record { ticks = omega arith; late = tt; stamps = tt; keys = tt; falling = tt; strict = tt; unlike = tt };
+  safe = record { removed = tt; cells = omega arith; trims = tt; trimmed_by = omega arith };
+}
+order (next {l = l} c b r) = kept Orderly order_reclaimed order_made (order r) (course_of l c b)
 
 pub orderly : OrderLaw
-orderly l r = record { sound = sound r; dated = dated r; tidy = tidy r }
+orderly l r = order r
+
+pub sound : {l : Ledger} → Reached l → Sound l
+sound r = (order r).sound
+
+pub dated : {l : Ledger} → Reached l → Dated l
+dated r = (order r).dated
 
 pub dead_stays : DeathLaw
-dead_stays l r c b v e = dead_later l (step l c b).ledger (ages (way l c b)) v e
+dead_stays l r c b v e = dead_later l (step l c b).ledger (ages (course_of l c b)) v e
 
 -- a history leads from a new ledger to the ledger after it
 pub reached : (n : Limits) (ms : List Made) → Reached (after n ms)
-reached n [] = made n
+reached n [] = new n
 reached n (m ∷ ms) = next m.call m.given (reached n ms)
+
+-- Histories: what is told up to now was told before, and each call has its course
+
+pub told_older : (n : Limits) (newer ms : List Made) → Told n (newer ++ ms) → Told n ms
+told_older n [] ms t = t
+told_older n (m ∷ newer) ms t = told_older n newer ms t.2
+
+pub course_told : (n : Limits) (m : Made) (ms : List Made) → Told n (m ∷ ms) → Course (after n ms) (deed m) (after n (m ∷ ms))
+course_told n m ms t =
+    let l = after n ms in
+    let o = step l m.call m.given in
+    subst (λ b. Course l (deed_of m.call m.answer b) o.ledger) (sym t.1) (subst (λ a. Course l (deed_of m.call a o.buffer) o.ledger) (sym t.0) (course_of l m.call m.given))
 
 pub fine_found : {l : Ledger} → Reached l → (h : ℕ) (t : Transaction) → found l.active h ≡ Some t → Fine l.limits l.clock t × (t.start ≡ h)
 fine_found {l = l} r h t f = all_found (Fine l.limits l.clock) l.active h t (sound r).fine f
@@ -64,44 +81,39 @@ idle {l = l} r z =
 
 -- What a ledger without ticks answers
 
-no_found : (l : Ledger) (h : ℕ) → l.active ≡ [] → found l.active h ≡ None
-no_found l h e = ap (λ ts. found ts h) e
+-- the ledger, were its clock at 0, without a tick, a transaction or a version
+abbrev emptied : Ledger → Ledger
+emptied l = record l { limits = record l.limits { last = 0 }; clock = 0; active = []; versions = [] }
 
-idle_step : (l : Ledger) → l.limits.last ≡ 0 → l.active ≡ [] → l.versions ≡ [] → (c : Call) (b : List ℕ) → ((step l c b).answer ≡ idle_answer c) × ((step l c b).buffer ≡ b) × ((step l c b).ledger.active ≡ []) × ((step l c b).ledger.versions ≡ [])
-idle_step l z a v (Begin kind) b =
-    let last : out_of_ticks l ≡ true = le-leb l.limits.last l.clock (omega arith) in
-    let o : step l (Begin kind) b ≡ refused l b (ClockSpent 0) = ap (λ ts. cond (leb 16 (length ts)) (refused l b TooManyActive) (cond (out_of_ticks l) (refused l b (ClockSpent l.limits.last)) (record { answer = Began (l.clock + 1); buffer = b; ledger = opened l kind }))) a ∙ ap (λ x. cond x (refused l b (ClockSpent l.limits.last)) (record { answer = Began (l.clock + 1); buffer = b; ledger = opened l kind })) last ∙ ap (λ x. refused l b (ClockSpent x)) z in
-    (ap (λ x. x.answer) o, ap (λ x. x.buffer) o, ap (λ x. x.ledger.active) o ∙ a, ap (λ x. x.ledger.versions) o ∙ v)
-idle_step l z a v (Read h k n) b = let o = ap (read_by l b h k n) (no_found l h a) in (ap (λ x. x.answer) o, ap (λ x. x.buffer) o, ap (λ x. x.ledger.active) o ∙ a, ap (λ x. x.ledger.versions) o ∙ v)
-idle_step l z a v (Write h k x) b = let o = ap (write_by l b h k x) (no_found l h a) in (ap (λ y. y.answer) o, ap (λ y. y.buffer) o, ap (λ y. y.ledger.active) o ∙ a, ap (λ y. y.ledger.versions) o ∙ v)
-idle_step l z a v (Commit h) b = let o = ap (commit_by l b h) (no_found l h a) in (ap (λ x. x.answer) o, ap (λ x. x.buffer) o, ap (λ x. x.ledger.active) o ∙ a, ap (λ x. x.ledger.versions) o ∙ v)
-idle_step l z a v (Abort h) b = let o = ap (abort_by l b h) (no_found l h a) in (ap (λ x. x.answer) o, ap (λ x. x.buffer) o, ap (λ x. x.ledger.active) o ∙ a, ap (λ x. x.ledger.versions) o ∙ v)
-idle_step l z a v Reclaim b = (ap (λ vs. Reclaimed (length (filter (λ w. w.present && dead l w) vs))) v, refl, a, ap (map (clear (horizon l) l.versions)) v)
+is_emptied : (l : Ledger) → l.limits.last ≡ 0 → l.clock ≡ 0 → l.active ≡ [] → l.versions ≡ [] → emptied l ≡ l
+is_emptied l z k a v =
+    let mk : ℕ → ℕ → List Transaction → List Version → Ledger = λ last clock ts vs. record l { limits = record l.limits { last = last }; clock = clock; active = ts; versions = vs } in
+    sym (ap (λ n. mk n l.clock l.active l.versions) z ∙ ap (λ n. mk 0 n l.active l.versions) k ∙ ap (λ ts. mk 0 0 ts l.versions) a ∙ ap (mk 0 0 []) v)
+
+abbrev Idles : Call → List ℕ → Outcome → Type 0
+Idles c b o = (o.answer ≡ idle_answer c) × (o.buffer ≡ b) × (o.ledger.active ≡ []) × (o.ledger.versions ≡ [])
+
+idle_step : (l : Ledger) (c : Call) (b : List ℕ) → Idles c b (step (emptied l) c b)
+idle_step l Call.Reclaim b = (refl, refl, refl, refl)
+idle_step l _ b = (refl, refl, refl, refl)
 
 pub idles : IdleLaw
-idles l r z c b = let i = idle r z in idle_step l z i.0 i.1 c b
+idles l r z c b = let i = idle r z in subst (λ m. Idles c b (step m c b)) (is_emptied l z i.2 i.0 i.1) (idle_step l c b)
 
 -- Refusals
 
-refusal : {l : Ledger} {b : List ℕ} {c : Call} {o : Outcome} → Way l b c o → (f : Fault) → o.answer ≡ Refused f → (o.ledger ≡ l) × (o.buffer ≡ b)
-refusal (refusing g) f e = (refl, refl)
-refusal (beginning few more) f e = cc
-refusal (reading t g inside fits room) f e = cc
-refusal (writing t g upd inside room) f e = cc
-refusal (closing t g r) f e = cc
-refusal (losing t g r j why) f e = cc
-refusal (committing t g r j clear' more room) f e = cc
-refusal (aborting t g) f e = cc
-refusal reclaiming f e = cc
+refusal : (l : Ledger) (b : List ℕ) (r : Result Effect Fault) (f : Fault) → (outcome l b r).answer ≡ Err f → ((outcome l b r).ledger ≡ l) × ((outcome l b r).buffer ≡ b)
+refusal l b (Ok e) f q = cc
+refusal l b (Err g) f q = (refl, refl)
 
 pub refusals : RefusalLaw
-refusals l c b f e = refusal (way l c b) f e
+refusals l c b f e = refusal l b (effect_of l c b) f e
 
 -- A trim hides no clash: a stamp that was kept, or set to 0 below the tick trimmed at, clashes as it did
 
 pub trim_hides_nothing : {l : Ledger} → Reached l → (h : ℕ) (t : Transaction) → found l.active h ≡ Some t → is_reader t.kind ≡ false → (stamp kept : ℕ) → (kept ≡ stamp) ⊎ ((kept ≡ 0) × (stamp < l.trimmed)) → (ltb t.start kept ≡ ltb t.start stamp) × (t.start < stamp → kept ≡ stamp)
 trim_hides_nothing {l = l} r h t f upd stamp kept why =
-    let le = (all_found (λ u. is_reader u.kind ≡ false → l.trimmed ≤ u.start) l.active h t (tidy r).trims f).0 upd in
+    let le = (all_found (λ u. is_reader u.kind ≡ false → l.trimmed ≤ u.start) l.active h t (order r).safe.trims f).0 upd in
     ⊎_elim (λ same. (ap (ltb t.start) same, λ lt. same))
     (λ gone. (le-ltb t.start kept (omega (arith, gone.0)) ∙ sym (le-ltb t.start stamp (omega (arith, gone.1))), λ lt. omega (arith, gone.1)))
     why

@@ -1,30 +1,46 @@
 -- What a reader is shown.
-use Rattle.std.proofs.Common.{◌≡◌, ℕ, suc, ◌+◌, ◌-◌, true, false, List, ◌∷◌, ◌++◌, map, drop, Some, sym, refl, ap, ◌∙◌, arith}
+use Rattle.std.proofs.Common.{◌≡◌, ℕ, suc, ◌+◌, ◌-◌, true, false, List, ◌∷◌, ◌++◌, map, length, drop, Some, None, Ok, Err, Option, Result, sym, refl, ap, ◌∙◌, arith}
+use Rattle.std.specs.List.{range_with_len}
+use mathlib.Core.Path.{fun_ext}
+use Rattle.std.specs.Result.{result_map_both}
 use Rattle.std.proofs.lemmas.Bool.{not-false}
 use Rattle.ledger.specs.declared.Kind.TheVariants.{Reader}
-use Rattle.ledger.specs.declared.Call.TheVariants.{Begin, Read}
-use Rattle.ledger.specs.declared.Answer.TheVariants.{Began, Read as ReadDone}
+use Rattle.ledger.specs.declared.Call.{Call}
+use Rattle.ledger.specs.declared.Done.{Done}
+use Rattle.ledger.specs.declared.Fault.{Fault}
 use Rattle.ledger.specs.Ledger.{Limits, Transaction, Ledger, found, is_reader, value_below}
-use Rattle.ledger.specs.Calls.{opened, Outcome, seen, keys_from}
+use Rattle.ledger.specs.Calls.{Effect, checked, maker, by_handle, transaction_check, begin_check, begin_effect, read_effect, step, opened, seen}
 use Rattle.ledger.specs.History.{Made, after, Told, updater_in}
 use Rattle.ledger.specs.Serial.{table}
 use Rattle.ledger.specs.Orderly.{Fine}
 use Rattle.ledger.specs.Laws.{MomentLaw, read_now}
 use Rattle.ledger.proofs.Actives.{all_found}
-use Rattle.ledger.proofs.Deaths.{map_same}
-use Rattle.ledger.proofs.Ways.{Way, beginning, refusing, reading, way}
 use Rattle.ledger.proofs.Histories.{inv, table_is}
-use Rattle.ledger.proofs.Restarts.{said}
+use Rattle.ledger.proofs.Restarts.{tells}
+
+-- a call that is accepted has passed its check, and has its effect
+passed : {X : Type 0} (l : Ledger) (b : List ℕ) (r : Result X Fault) (effect : X → Effect) (d : Done) → Ok d ≡ (checked l b r effect).answer → (x : X) × (r ≡ Ok x)
+passed l b (Ok x) effect d e = (x, refl)
+passed l b (Err f) effect d e = cc
 
 -- an accepted read, by an active transaction
-read_by_one : {l : Ledger} {b : List ℕ} {h k c : ℕ} {o : Outcome} → Way l b (Read h k c) o → ReadDone ≡ o.answer → (t : Transaction) × ((found l.active h ≡ Some t) × (o.buffer ≡ map (seen l t) (keys_from k c) ++ drop c b))
-read_by_one (refusing f) e = cc
-read_by_one (reading t f inside fits room) e = (t, (f, refl))
+read_by_one : (l : Ledger) (b : List ℕ) (h k c : ℕ) → Ok (Done.Read c) ≡ (step l (Call.Read h k c) b).answer → (t : Transaction) × ((found l.active h ≡ Some t) × ((step l (Call.Read h k c) b).buffer ≡ map (seen l t) (range_with_len k c) ++ drop c b))
+read_by_one l b h k c e =
+    let p = passed l b (by_handle l b h (Call.Read h k c)) (read_effect l b h k c) (Done.Read c) e in
+    (p.0, (by_found (found l.active h) p.0 p.1, ap (λ r. (checked l b r (read_effect l b h k c)).buffer) p.1))
+  where
+    by_found : (o : Option Transaction) (t : Transaction) → maker l.limits.keys (length b) h (Call.Read h k c) o ≡ Ok t → o ≡ Some t
+    by_found None t q = cc
+    by_found (Some u) t q = ap Some (same (transaction_check l.limits.keys (length b) u (Call.Read h k c)) q)
+      where
+        same : (r : Result (Unit {0}) Fault) → result_map_both (λ _. u) (λ f. f) r ≡ Ok t → u ≡ t
+        same (Ok x) q = cc
+        same (Err f) q = cc
 
 module _ (n : Limits) (ms : List Made) (told : Told n ms) where
   module _ (h : ℕ) (t : Transaction) (f : found (after n ms).active h ≡ Some t) (reader : updater_in h ms ≡ false) where
     reads_only : is_reader t.kind ≡ true
-    reads_only = not-false (is_reader t.kind) (sym ((said n ms told).active h t f).kind ∙ reader)
+    reads_only = not-false (is_reader t.kind) (sym ((tells n ms told).active h t f).kind ∙ reader)
 
     -- its start is its handle, a tick that was drawn
     seen_before : (j : ℕ) → seen (after n ms) t j ≡ table ms (h - 1) j
@@ -36,24 +52,31 @@ module _ (n : Limits) (ms : List Made) (told : Told n ms) where
 
 pub moment : MomentLaw
 moment n ms h k c b b' told reader =
-    let q = read_by_one (way (after n ms) (Read h k c) b) told.0 in
-    told.1 ∙ q.1.1 ∙ ap (λ xs. xs ++ drop c b) (map_same (seen (after n ms) q.0) (table ms (h - 1)) (seen_before n ms told.2 h q.0 q.1.0 reader) (keys_from k c))
+    let q = read_by_one (after n ms) b h k c told.0 in
+    told.1 ∙ q.1.1 ∙ ap (λ xs. xs ++ drop c b) (ap (λ f. map f (range_with_len k c)) (fun_ext (seen_before n ms told.2 h q.0 q.1.0 reader)))
 
 -- an accepted begin of a reader
-begun_by_one : {l : Ledger} {b : List ℕ} {h : ℕ} {o : Outcome} → Way l b (Begin Reader) o → Began h ≡ o.answer → (h ≡ l.clock + 1) × (o.ledger ≡ opened l Reader)
-begun_by_one (refusing f) e = cc
-begun_by_one (beginning few more) e = (cc, refl)
+begun_by_one : (l : Ledger) (b : List ℕ) (h : ℕ) → Ok (Done.Began h) ≡ (step l (Call.Begin Reader) b).answer → (h ≡ l.clock + 1) × ((step l (Call.Begin Reader) b).ledger ≡ opened l Reader)
+begun_by_one l b h e =
+    let r = begin_check (length l.active) l.clock l.limits.last in
+    let effect : Unit {0} → Effect = λ _. begin_effect l b Reader in
+    let p = passed l b r effect (Done.Began h) e in
+    let o = ap (λ x. checked l b x effect) p.1 in
+    (tick (e ∙ ap (λ x. x.answer) o), ap (λ x. x.ledger) o)
+  where
+    tick : ◌≡◌ {A = Result Done Fault} (Ok (Done.Began h)) (Ok (Done.Began (l.clock + 1))) → h ≡ l.clock + 1
+    tick q = cc
 
 -- a reader that begins now is shown the table as it is
-pub shown_now : (n : Limits) (ms : List Made) (h k c : ℕ) (b b' d d' : List ℕ) → Told n (read_now h k c b b' ∷ (record { call = Begin Reader; given = d; answer = Began h; left = d' }) ∷ ms) → b' ≡ map (table ms (after n ms).clock) (keys_from k c) ++ drop c b
+pub shown_now : (n : Limits) (ms : List Made) (h k c : ℕ) (b b' d d' : List ℕ) → Told n (read_now h k c b b' ∷ (record { call = Call.Begin Reader; given = d; answer = Ok (Done.Began h); left = d' }) ∷ ms) → b' ≡ map (table ms (after n ms).clock) (range_with_len k c) ++ drop c b
 shown_now n ms h k c b b' d d' told =
-    let begin : Made = record { call = Begin Reader; given = d; answer = Began h; left = d' } in
+    let begin : Made = record { call = Call.Begin Reader; given = d; answer = Ok (Done.Began h); left = d' } in
     let l = after n ms in
-    let q = begun_by_one (way l (Begin Reader) d) told.2.0 in
+    let q = begun_by_one l d h told.2.0 in
     let before : (j : ℕ) → table (begin ∷ ms) (h - 1) j ≡ table ms l.clock j = λ j.
     let here = (inv n (begin ∷ ms) told.2).value (h - 1) j (omega (arith, q.0, ap (λ (x : Ledger). x.clock) q.1)) in
     let there = (inv n ms told.2.2).value l.clock j (omega arith) in
     let tick : h - 1 ≡ l.clock = omega (arith, q.0) in
     ap (λ v. v j) (table_is (begin ∷ ms) (h - 1)) ∙ sym here ∙ ap (λ x. value_below j (suc x) (after n (begin ∷ ms)).versions) tick ∙ ap (λ (x : Ledger). value_below j (suc l.clock) x.versions) q.1 ∙ there ∙ ap (λ v. v j) (sym (table_is ms l.clock)) in
-    moment n (begin ∷ ms) h k c b b' told ((said n ms told.2.2).silent h (omega (arith, q.0))).1
-    ∙ ap (λ xs. xs ++ drop c b) (map_same (table (begin ∷ ms) (h - 1)) (table ms l.clock) before (keys_from k c))
+    moment n (begin ∷ ms) h k c b b' told ((tells n ms told.2.2).silent h (omega (arith, q.0))).1
+    ∙ ap (λ xs. xs ++ drop c b) (ap (λ f. map f (range_with_len k c)) (fun_ext before))

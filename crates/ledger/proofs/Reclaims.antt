@@ -1,183 +1,152 @@
 -- A reclaim changes no answer and no buffer of another call.
-use Rattle.std.proofs.Common.{◌≡◌, ℕ, ◌+◌, ◌-◌, ◌≤◌, Bool, true, false, cond, not, ◌&&◌, ltb, leb, List, [], ◌∷◌, ◌++◌, map, length, drop, Some, None, filter, Option, unwrap_or, sym, refl, ap, ◌∙◌, subst, arith}
-use Rattle.std.proofs.lemmas.Bool.{ltb-true, ltb-false}
-use Rattle.ledger.specs.declared.Kind.{Kind}
+use Rattle.std.proofs.Common.{◌≡◌, ℕ, ◌+◌, ◌-◌, ◌≤◌, Bool, true, false, cond, not, List, [], ◌∷◌, ◌++◌, map, length, drop, Some, None, Ok, Err, Option, Result, unwrap_or, filter, sym, refl, ap, ◌∙◌, subst, arith}
+use Rattle.std.specs.List.{range_with_len}
+use mathlib.Core.Path.{fun_ext}
+use Rattle.std.specs.Option.{is_some}
 use Rattle.ledger.specs.declared.Fault.{Fault}
 use Rattle.ledger.specs.declared.Verdict.{Verdict}
-use Rattle.ledger.specs.declared.Verdict.TheVariants.{Full, Committed}
-use Rattle.ledger.specs.declared.Answer.{Answer}
-use Rattle.ledger.specs.declared.Answer.TheVariants.{Ended}
+use Rattle.ledger.specs.declared.Verdict.TheVariants.{Closed, Spent, Committed}
+use Rattle.ledger.specs.declared.Done.{Done}
 use Rattle.ledger.specs.declared.Call.{Call}
-use Rattle.ledger.specs.declared.Call.TheVariants.{Begin, Read, Write, Commit, Abort, Reclaim}
-use Rattle.ledger.specs.Ledger.{Limits, Transaction, Version, Ledger, found, is_reader, least_start, horizon, superseded, present_count, dead_count, own_write, value_below, newest_value}
-use Rattle.ledger.specs.Calls.{Outcome, refused, with_active, without, changed, out_of_ticks, in_table, seen, keys_from, joins, joined, read_by, no_room, wrote, write_by, reclaimed, read_keys, free, too_full, stamped, ended, installed, judged_by, judged, commit_by, abort_by, step}
+use Rattle.ledger.specs.Ledger.{Limits, Transaction, Version, Ledger, is_reader, outlook, present_count, shortage, own_write, value_below, newest_value}
+use Rattle.ledger.specs.Calls.{Outcome, Effect, accepted, checked, ended, opened, seen, with_call, having_made, begin_check, by_handle, read_effect, commit_effect, reclaimed, Clash, clash, read_keys, shortage_in, with_room, stamped, out_of_ticks, full_or_committed, verdict_after, verdict, left_by, is_judged, judged, step}
 use Rattle.ledger.specs.History.{is_reclaim, Made, after, Told, others, asked}
 use Rattle.ledger.specs.Laws.{ReclaimLaw, VerdictLaw}
-use Rattle.ledger.proofs.Actives.{Keeps, joined_keeps}
-use Rattle.ledger.proofs.Sounds.{writes_keeps}
-use Rattle.ledger.proofs.Deaths.{tidy, clear, bare_tidy, value_same, newest_same, clash_same, tidy_more, tidy_again, map_same, dead_count_reclaimed, horizon_opened, horizon_out, horizon_changed, horizon_installed}
+use Rattle.ledger.proofs.Actives.{call_keeps}
+use Rattle.ledger.proofs.Steps.{none_short, not_short}
+use Rattle.ledger.proofs.Presence.{value_same, newest_same, clash_same}
+use Rattle.ledger.proofs.Outlooks.{Narrows, narrows_same, outlook_opened, outlook_ended, outlook_changed, outlook_installed}
+use Rattle.ledger.proofs.Deaths.{swept, bare_swept, swept_more, swept_again, present_swept}
 
+-- the ledger with other versions in the cells, trimmed at another tick
 abbrev like : Ledger → List Version → ℕ → Ledger
 like l vs n = record { limits = l.limits; clock = l.clock; active = l.active; versions = vs; trimmed = n }
 
 -- a reclaim of each leaves the same versions
 pub data Alike (l : Ledger) : Ledger → Type 0 where
-  alike : (vs : List Version) (n : ℕ) → tidy (horizon l) l.versions ≡ tidy (horizon l) vs → Alike l (like l vs n)
+  alike : (vs : List Version) (n : ℕ) → swept (outlook l) l.versions ≡ swept (outlook l) vs → Alike l (like l vs n)
 
 pub record Agree (o p : Outcome) : Type 0 where
   pub answer : o.answer ≡ p.answer
   pub buffer : o.buffer ≡ p.buffer
   pub ledger : Alike o.ledger p.ledger
 
-agree_cond : (t : Bool) {o p q r : Outcome} → (t ≡ true → Agree o q) → (t ≡ false → Agree p r) → Agree (cond t o p) (cond t q r)
-agree_cond true y n = y refl
-agree_cond false y n = n refl
+record AgreeInEffect (o p : Effect) : Type 0 where
+  pub done : o.done ≡ p.done
+  pub buffer : o.buffer ≡ p.buffer
+  pub ledger : Alike o.ledger p.ledger
 
--- The cells
+agree_accepted : (o p : Effect) → AgreeInEffect o p → Agree (accepted o) (accepted p)
+agree_accepted o p a = record { answer = ap Ok a.done; buffer = a.buffer; ledger = a.ledger }
 
--- what is present, less what is dead, is what a reclaim leaves present
-count_left : (h : ℕ) (all us : List Version) → length (filter (λ v. v.present) us) ≡ length (filter (λ v. v.present) (map (clear h all) us)) + length (filter (λ v. v.present && superseded all h v) us)
-count_left h all [] = omega arith
-count_left h all (v ∷ us) = go v.present (superseded all h v) (count_left h all us)
-  where
-    go : (p s : Bool) → length (filter (λ u. u.present) us) ≡ length (filter (λ u. u.present) (map (clear h all) us)) + length (filter (λ u. u.present && superseded all h u) us) → length (cond p (v ∷ filter (λ u. u.present) us) (filter (λ u. u.present) us)) ≡ length (cond (p && not s) (clear h all v ∷ filter (λ u. u.present) (map (clear h all) us)) (filter (λ u. u.present) (map (clear h all) us))) + length (cond (p && s) (v ∷ filter (λ u. u.present && superseded all h u) us) (filter (λ u. u.present && superseded all h u) us))
-    go true true ih = omega arith
-    go true false ih = omega arith
-    go false s ih = ih
+-- Ledgers that are alike
 
-pub left_present : (l : Ledger) → present_count l ≡ present_count (reclaimed l) + dead_count l
-left_present l = count_left (horizon l) l.versions l.versions
+module _ (l : Ledger) (vs : List Version) (n : ℕ) (e : swept (outlook l) l.versions ≡ swept (outlook l) vs) where
+  abbrev other : Ledger
+  other = like l vs n
 
-full_by_left : (l : Ledger) (w : ℕ) → too_full l w ≡ ltb l.limits.cells (present_count (reclaimed l) + w)
-full_by_left l w = let e : present_count l - dead_count l ≡ present_count (reclaimed l) = omega (arith, left_present l) in ap (λ n. ltb l.limits.cells (n + w)) e
+  -- calls that pass the same check agree if their effects do
+  agree_checked : {X : Type 0} (b : List ℕ) (r : Result X Fault) (f g : X → Effect) → ((x : X) → AgreeInEffect (f x) (g x)) → Agree (checked l b r f) (checked other b r g)
+  agree_checked b (Ok x) f g a = agree_accepted (f x) (g x) (a x)
+  agree_checked b (Err x) f g a = record { answer = refl; buffer = refl; ledger = alike vs n e }
 
--- only the clock and the active transactions change, and the horizon does not fall
-module _ (l : Ledger) (vs : List Version) (n : ℕ) (e : tidy (horizon l) l.versions ≡ tidy (horizon l) vs) where
-  left_same : present_count (reclaimed l) ≡ present_count (reclaimed (like l vs n))
-  left_same = ap (λ us. length (filter (λ v. v.present) us)) e
+  -- only the clock and the active transactions change, and the outlook narrows
+  alike_moved : (c : ℕ) (ts : List Transaction) → Narrows (outlook l) (outlook (record { limits = l.limits; clock = c; active = ts; versions = l.versions; trimmed = l.trimmed })) → Alike (record { limits = l.limits; clock = c; active = ts; versions = l.versions; trimmed = l.trimmed }) (record { limits = l.limits; clock = c; active = ts; versions = vs; trimmed = n })
+  alike_moved c ts le = alike vs n (swept_more (outlook l) _ [] l.versions vs le e)
 
-  full_same : (w : ℕ) → too_full l w ≡ too_full (like l vs n) w
-  full_same w = full_by_left l w ∙ ap (λ p. ltb l.limits.cells (p + w)) left_same ∙ sym (full_by_left (like l vs n) w)
+  alike_ended : (h : ℕ) → Alike (ended l h) (ended other h)
+  alike_ended h = alike_moved l.clock (ended l h).active (outlook_ended l h)
 
-  agree_refused : (b : List ℕ) (f : Fault) → Agree (refused l b f) (refused (like l vs n) b f)
-  agree_refused b f = record { answer = refl; buffer = refl; ledger = alike vs n e }
+  alike_call : (h : ℕ) (c : Call) → Alike (with_call l h c) (with_call other h c)
+  alike_call h c = alike_moved l.clock (with_call l h c).active (narrows_same (sym (outlook_changed l h (λ u. having_made u c) (call_keeps c))))
 
-  alike_moved : (c : ℕ) (ts : List Transaction) → horizon l ≤ least_start is_reader (c + 1) ts → Alike (record { limits = l.limits; clock = c; active = ts; versions = l.versions; trimmed = l.trimmed }) (record { limits = l.limits; clock = c; active = ts; versions = vs; trimmed = n })
-  alike_moved c ts le = alike vs n (tidy_more (horizon l) _ [] l.versions vs le e)
+  alike_left : (t : Transaction) (v : Verdict) → Alike (left_by l t v) (left_by other t v)
+  alike_left t (Committed c) = alike _ n (swept_more (outlook l) _ (stamped (l.clock + 1) t.writes) l.versions vs (outlook_installed l t) e)
+  alike_left t _ = alike_ended t.start
 
-  agree_ended : (b : List ℕ) (h : ℕ) (v : Verdict) → Agree (ended l b h v) (ended (like l vs n) b h v)
-  agree_ended b h v = record { answer = refl; buffer = refl; ledger = alike_moved l.clock (without l.active h) (horizon_out l h) }
-
-  agree_committed : (b : List ℕ) (t : Transaction) → Agree (record { answer = Ended (Committed (l.clock + 1)); buffer = b; ledger = installed l t }) (record { answer = Ended (Committed (l.clock + 1)); buffer = b; ledger = installed (like l vs n) t })
-  agree_committed b t = record { answer = refl; buffer = refl; ledger = alike _ n (tidy_more (horizon l) _ (stamped (l.clock + 1) t.writes) l.versions vs (horizon_installed l t) e) }
-
-  -- as many cells are free, if it is the cells that are wanting
-  abbrev FreeSame : ℕ → Type 0
-  FreeSame w = too_full l w ≡ true → free l ≡ free (like l vs n)
-
-  agree_full : (b : List ℕ) (t : Transaction) → free l ≡ free (like l vs n) → Agree (ended l b t.start (Full (length t.writes) (free l))) (ended (like l vs n) b t.start (Full (length t.writes) (free (like l vs n))))
-  agree_full b t same = subst (λ x. Agree (ended l b t.start (Full (length t.writes) (free l))) (ended (like l vs n) b t.start (Full (length t.writes) x))) same (agree_ended b t.start (Full (length t.writes) (free l)))
-
-  agree_judged_by : (b : List ℕ) (t : Transaction) → FreeSame (length t.writes) → (o : Option (ℕ × ℕ)) → Agree (judged_by l b t o) (judged_by (like l vs n) b t o)
-  agree_judged_by b t room (Some x) = agree_ended b t.start _
-  agree_judged_by b t room None = agree_cond (out_of_ticks l) (λ _. agree_ended b t.start _) (λ _. go (too_full l (length t.writes)) (too_full (like l vs n) (length t.writes)) (full_same (length t.writes)) refl)
+  verdict_same : (t : Transaction) → shortage_in l (length t.writes) ≡ shortage_in other (length t.writes) → verdict l t ≡ verdict other t
+  verdict_same t room = go (clash l t) ∙ ap (verdict_after other t) (clash_same l.versions vs (bare_swept (outlook l) l.versions vs e) l.limits.granule t.start (read_keys t.reads))
     where
-      go : (x y : Bool) → x ≡ y → too_full l (length t.writes) ≡ x → Agree (cond x (ended l b t.start (Full (length t.writes) (free l))) (record { answer = Ended (Committed (l.clock + 1)); buffer = b; ledger = installed l t })) (cond y (ended (like l vs n) b t.start (Full (length t.writes) (free (like l vs n)))) (record { answer = Ended (Committed (l.clock + 1)); buffer = b; ledger = installed (like l vs n) t }))
-      go true true s f = agree_full b t (room f)
-      go false false s f = agree_committed b t
-      go true false s f = cc
-      go false true s f = cc
+      go : (o : Option Clash) → verdict_after l t o ≡ verdict_after other t o
+      go (Some c) = refl
+      go None = ap (λ s. cond (out_of_ticks l.clock l.limits.last) Spent (full_or_committed l s)) room
 
-  agree_judged : (b : List ℕ) (t : Transaction) → FreeSame (length t.writes) → Agree (judged l b t) (judged (like l vs n) b t)
-  agree_judged b t room = subst (λ o. Agree (judged l b t) (judged_by (like l vs n) b t o)) (clash_same l.versions vs (bare_tidy (horizon l) l.versions vs e) l.limits.granule t.start (read_keys t.reads)) (agree_judged_by b t room _)
+  agree_judged : (b : List ℕ) (t : Transaction) → shortage_in l (length t.writes) ≡ shortage_in other (length t.writes) → AgreeInEffect (judged l b t) (judged other b t)
+  agree_judged b t room =
+      let v = verdict_same t room in
+      record { done = ap Done.Ended v; buffer = refl; ledger = subst (λ x. Alike (left_by l t (verdict l t)) (left_by other t x)) v (alike_left t (verdict l t)) }
 
-module _ (l : Ledger) (vs : List Version) (n : ℕ) (e : tidy (horizon l) l.versions ≡ tidy (horizon l) vs) where
-  abbrev two : Ledger
-  two = like l vs n
-
-  -- each commit reclaims or not, as its own cells are short
-  agree_tried : (b : List ℕ) (t : Transaction) (a z : Bool) → ltb (free l) (length t.writes) ≡ a → ltb (free two) (length t.writes) ≡ z → Agree (cond a (judged (reclaimed l) b t) (judged l b t)) (cond z (judged (reclaimed two) b t) (judged two b t))
-  agree_tried b t true true p q =
-      agree_judged (reclaimed l) (tidy (horizon l) vs) _ (ap (tidy (horizon l)) e) b t (λ _. ap (λ x. l.limits.cells - x) (left_same l vs n e))
-  agree_tried b t true false p q =
-      let enough = ltb-false (free two) (length t.writes) q in
-      agree_judged (reclaimed l) vs n (tidy_again (horizon l) l.versions ∙ e) b t
-      (λ f. let lt = ltb-true _ _ f in omega (arith, lt, enough, left_same l vs n e, left_present two, dead_count_reclaimed l))
-  agree_tried b t false true p q =
-      let enough = ltb-false (free l) (length t.writes) p in
-      agree_judged l (tidy (horizon l) vs) _ (e ∙ sym (tidy_again (horizon l) vs)) b t
-      (λ f. let lt = ltb-true _ _ f in omega (arith, lt, enough, left_same l vs n e, left_present l))
-  agree_tried b t false false p q =
-      let enough = ltb-false (free l) (length t.writes) p in
-      let enough' = ltb-false (free two) (length t.writes) q in
-      agree_judged l vs n e b t (λ f. let lt = ltb-true _ _ f in omega (arith, lt, enough, enough', left_same l vs n e, left_present l, left_present two))
-
-  seen_same : (t : Transaction) (k : ℕ) → seen l t k ≡ seen two t k
+  seen_same : (t : Transaction) (k : ℕ) → seen l t k ≡ seen other t k
   seen_same t k =
-      let b = bare_tidy (horizon l) l.versions vs e in
+      let b = bare_swept (outlook l) l.versions vs e in
       ap (λ x. cond (is_reader t.kind) x (unwrap_or (own_write k t.writes) (newest_value k l.versions))) (value_same l.versions vs b k t.start)
       ∙ ap (λ x. cond (is_reader t.kind) (value_below k t.start vs) (unwrap_or (own_write k t.writes) x)) (newest_same l.versions vs b k)
 
-  alike_changed : (h : ℕ) (f : Transaction → Transaction) → Keeps f → Alike (with_active l (changed l.active h f)) (with_active two (changed l.active h f))
-  alike_changed h f k = alike_moved l vs n e l.clock (changed l.active h f) (omega (arith, horizon_changed l h f k))
+-- Room
 
-  agree_read : (b : List ℕ) (h k m : ℕ) (o : Option Transaction) → Agree (read_by l b h k m o) (read_by two b h k m o)
-  agree_read b h k m None = agree_refused l vs n e b _
-  agree_read b h k m (Some t) =
-      agree_cond (not (in_table l k m)) (λ _. agree_refused l vs n e b _) (λ _.
-      agree_cond (ltb (length b) m) (λ _. agree_refused l vs n e b _) (λ _.
-      agree_cond (joins t k m && leb 32 (length t.reads)) (λ _. agree_refused l vs n e b _) (λ _.
-      record {
-        answer = refl;
-        buffer = ap (λ xs. xs ++ drop m b) (map_same (seen l t) (seen two t) (seen_same t) (keys_from k m));
-        ledger = alike_changed h (λ u. joined u k m) (joined_keeps k m);
-      })))
+module _ (l : Ledger) (vs : List Version) (n : ℕ) (e : swept (outlook l) l.versions ≡ swept (outlook l) vs) where
+  abbrev two : Ledger
+  two = like l vs n
 
-  agree_write : (b : List ℕ) (h k x : ℕ) (o : Option Transaction) → Agree (write_by l b h k x o) (write_by two b h k x o)
-  agree_write b h k x None = agree_refused l vs n e b _
-  agree_write b h k x (Some t) =
-      agree_cond (is_reader t.kind) (λ _. agree_refused l vs n e b _) (λ _.
-      agree_cond (not (in_table l k 1)) (λ _. agree_refused l vs n e b _) (λ _.
-      agree_cond (no_room t k) (λ _. agree_refused l vs n e b _) (λ _.
-      record { answer = refl; buffer = refl; ledger = alike_changed h (λ u. wrote u k x) (writes_keeps k x) })))
+  left_same : present_count (reclaimed l) ≡ present_count (reclaimed two)
+  left_same = ap (λ us. length (filter (λ v. v.present) us)) e
 
-  agree_commit : (b : List ℕ) (h : ℕ) (o : Option Transaction) → Agree (commit_by l b h o) (commit_by two b h o)
-  agree_commit b h None = agree_refused l vs n e b _
-  agree_commit b h (Some t) = agree_cond (is_reader t.kind) (λ _. agree_ended l vs n e b h _) (λ _. agree_tried b t _ _ refl refl)
+  -- each commit reclaims or not, as its own cells are short, and is as short of cells afterwards
+  agree_with_room : (b : List ℕ) (t : Transaction) → AgreeInEffect (judged (with_room l (length t.writes)) b t) (judged (with_room two (length t.writes)) b t)
+  agree_with_room b t = go (is_some (shortage_in l (length t.writes))) (is_some (shortage_in two (length t.writes))) refl refl
+    where
+      few : present_count (reclaimed l) ≤ present_count l
+      few = present_swept (outlook l) l.versions l.versions
 
-  agree_abort : (b : List ℕ) (h : ℕ) (o : Option Transaction) → Agree (abort_by l b h o) (abort_by two b h o)
-  agree_abort b h None = agree_refused l vs n e b _
-  agree_abort b h (Some t) = record { answer = refl; buffer = refl; ledger = alike_moved l vs n e l.clock (without l.active h) (horizon_out l h) }
+      few' : present_count (reclaimed two) ≤ present_count two
+      few' = present_swept (outlook l) vs vs
 
-  agree_begin : (b : List ℕ) (kind : Kind) → Agree (step l (Begin kind) b) (step two (Begin kind) b)
-  agree_begin b kind =
-      agree_cond (leb 16 (length l.active)) (λ _. agree_refused l vs n e b _) (λ _.
-      agree_cond (out_of_ticks l) (λ _. agree_refused l vs n e b _) (λ _.
-      record { answer = refl; buffer = refl; ledger = alike_moved l vs n e (l.clock + 1) _ (horizon_opened l kind) }))
+      none : (taken : ℕ) → (length t.writes) ≤ l.limits.cells - taken → shortage l.limits.cells taken (length t.writes) ≡ None
+      none taken le = none_short l.limits.cells taken (length t.writes) le
+
+      go : (a z : Bool) → is_some (shortage_in l (length t.writes)) ≡ a → is_some (shortage_in two (length t.writes)) ≡ z → AgreeInEffect (judged (cond a (reclaimed l) l) b t) (judged (cond z (reclaimed two) two) b t)
+      go true true p q = agree_judged (reclaimed l) (swept (outlook l) vs) _ (ap (swept (outlook l)) e) b t (ap (λ x. shortage l.limits.cells x (length t.writes)) left_same)
+      go true false p q =
+          let le = not_short l.limits.cells (present_count two) (length t.writes) q in
+          agree_judged (reclaimed l) vs n (swept_again (outlook l) l.versions ∙ e) b t (none (present_count (reclaimed l)) (omega (arith, le, few', left_same)) ∙ sym (none (present_count two) le))
+      go false true p q =
+          let le = not_short l.limits.cells (present_count l) (length t.writes) p in
+          agree_judged l (swept (outlook l) vs) _ (e ∙ sym (swept_again (outlook l) vs)) b t (none (present_count l) le ∙ sym (none (present_count (reclaimed two)) (omega (arith, le, few, left_same))))
+      go false false p q = agree_judged l vs n e b t (none (present_count l) (not_short l.limits.cells (present_count l) (length t.writes) p) ∙ sym (none (present_count two) (not_short l.limits.cells (present_count two) (length t.writes) q)))
+
+  agree_commit : (b : List ℕ) (h : ℕ) (t : Transaction) → AgreeInEffect (commit_effect l b h t) (commit_effect two b h t)
+  agree_commit b h t = go (is_judged t.kind (Call.Commit h))
+    where
+      go : (j : Bool) → AgreeInEffect (cond j (judged (with_room l (length t.writes)) b t) (record { done = Done.Ended Closed; buffer = b; ledger = ended l h })) (cond j (judged (with_room two (length t.writes)) b t) (record { done = Done.Ended Closed; buffer = b; ledger = ended two h }))
+      go true = agree_with_room b t
+      go false = record { done = refl; buffer = refl; ledger = alike_ended l vs n e h }
+
+  agree_read : (b : List ℕ) (h k m : ℕ) (t : Transaction) → AgreeInEffect (read_effect l b h k m t) (read_effect two b h k m t)
+  agree_read b h k m t = record {
+    done = refl;
+    buffer = ap (λ xs. xs ++ drop m b) (ap (λ f. map f (range_with_len k m)) (fun_ext (seen_same l vs n e t)));
+    ledger = alike_call l vs n e h (Call.Read h k m);
+  }
 
 pub agree_step : {l m : Ledger} → Alike l m → (c : Call) (b : List ℕ) → is_reclaim c ≡ false → Agree (step l c b) (step m c b)
-agree_step {l = l} (alike vs n e) (Begin kind) b r = agree_begin l vs n e b kind
-agree_step {l = l} (alike vs n e) (Read h k m) b r = agree_read l vs n e b h k m (found l.active h)
-agree_step {l = l} (alike vs n e) (Write h k x) b r = agree_write l vs n e b h k x (found l.active h)
-agree_step {l = l} (alike vs n e) (Commit h) b r = agree_commit l vs n e b h (found l.active h)
-agree_step {l = l} (alike vs n e) (Abort h) b r = agree_abort l vs n e b h (found l.active h)
-agree_step {l = l} (alike vs n e) Reclaim b r = cc
+agree_step {l = l} (alike vs n e) (Call.Begin kind) b r = agree_checked l vs n e b (begin_check (length l.active) l.clock l.limits.last) _ _ (λ _. record { done = refl; buffer = refl; ledger = alike_moved l vs n e (l.clock + 1) (opened l kind).active (outlook_opened l kind) })
+agree_step {l = l} (alike vs n e) (Call.Read h k m) b r = agree_checked l vs n e b (by_handle l b h (Call.Read h k m)) _ _ (agree_read l vs n e b h k m)
+agree_step {l = l} (alike vs n e) (Call.Write h k x) b r = agree_checked l vs n e b (by_handle l b h (Call.Write h k x)) _ _ (λ _. record { done = refl; buffer = refl; ledger = alike_call l vs n e h (Call.Write h k x) })
+agree_step {l = l} (alike vs n e) (Call.Commit h) b r = agree_checked l vs n e b (by_handle l b h (Call.Commit h)) _ _ (agree_commit l vs n e b h)
+agree_step {l = l} (alike vs n e) (Call.Abort h) b r = agree_checked l vs n e b (by_handle l b h (Call.Abort h)) _ _ (λ _. record { done = refl; buffer = refl; ledger = alike_ended l vs n e h })
+agree_step {l = l} (alike vs n e) Call.Reclaim b r = cc
 
 pub alike_reclaimed : {l m : Ledger} → Alike l m → Alike (reclaimed l) m
-alike_reclaimed {l = l} (alike vs n e) = alike vs n (tidy_again (horizon l) l.versions ∙ e)
+alike_reclaimed {l = l} (alike vs n e) = alike vs n (swept_again (outlook l) l.versions ∙ e)
 
 pub verdicts : VerdictLaw
-verdicts l r h b = (agree_step (alike_reclaimed {l = l} {m = l} (alike l.versions l.trimmed refl)) (Commit h) b refl).answer
+verdicts l r h b = (agree_step (alike_reclaimed {l = l} {m = l} (alike l.versions l.trimmed refl)) (Call.Commit h) b refl).answer
 
 -- Whole histories
 
-reclaim_is : (c : Call) → is_reclaim c ≡ true → c ≡ Reclaim
-reclaim_is (Begin k) e = cc
-reclaim_is (Read h k m) e = cc
-reclaim_is (Write h k x) e = cc
-reclaim_is (Commit h) e = cc
-reclaim_is (Abort h) e = cc
-reclaim_is Reclaim e = refl
+reclaim_is : (c : Call) → is_reclaim c ≡ true → c ≡ Call.Reclaim
+reclaim_is Call.Reclaim e = refl
+reclaim_is _ e = cc
 
 -- with the reclaims struck out, the history is told too
 pub told_others : (n : Limits) (ms : List Made) → Told n ms → Told n (others ms) × Alike (after n ms) (after n (others ms))
@@ -193,7 +162,7 @@ cons_parts x y xs ys e = (cc, cc)
 
 pub made_same : (x y : Made) → x.call ≡ y.call → x.given ≡ y.given → x.answer ≡ y.answer → x.left ≡ y.left → x ≡ y
 made_same x y a b c d =
-    let mk : Call → List ℕ → Answer → List ℕ → Made = λ p q r s. record { call = p; given = q; answer = r; left = s } in
+    let mk : Call → List ℕ → Result Done Fault → List ℕ → Made = λ p q r s. record { call = p; given = q; answer = r; left = s } in
     ap (λ p. mk p x.given x.answer x.left) a ∙ ap (λ p. mk y.call p x.answer x.left) b ∙ ap (λ p. mk y.call y.given p x.left) c ∙ ap (λ p. mk y.call y.given y.answer p) d
 
 -- what was asked tells the answers and the buffers left

@@ -1,25 +1,25 @@
 -- What holds of a story and of the ledger that tells it, call by call.
 use Rattle.std.proofs.Common.{◌≡◌, ℕ, suc, ◌+◌, ◌<◌, ◌≤◌, Bool, true, false, cond, not, ◌&&◌, eqb, ltb, ◌⊎◌, List, [], ◌∷◌, ◌++◌, map, Some, None, Option, unwrap_or, sym, refl, ap, ◌∙◌, subst, ⊎_elim, arith}
-use Rattle.std.specs.List.{AllByRecursion}
+use Rattle.std.specs.List.{AllByRecursion, list_any, range_with_len}
 use Rattle.std.proofs.lemmas.List.{append_assoc}
 use Rattle.std.proofs.ByRecursion.{All-append, All-weaker}
 use Rattle.std.proofs.lemmas.Bool.{ltb-false, eqb-true, eq-eqb, ne_eqb, cond_both, cases_lt, cases_eq, and_parts, or_cases, not-false}
 use Rattle.ledger.specs.declared.Kind.{Kind}
+use Rattle.ledger.specs.declared.Call.{Call}
 use Rattle.ledger.specs.declared.Range.{Range}
-use Rattle.ledger.specs.Ledger.{Transaction, Ledger, found, is_reader, any, value_below, newest_value, own_write}
-use Rattle.ledger.specs.Calls.{seen, keys_from, granule_stamp, first_clash, read_keys, stamped, with_active, changed, fresh, opened as opening, installed, joins, joined, wrote, same_range}
-use Rattle.ledger.specs.History.{Act, looks, sets}
+use Rattle.ledger.specs.Ledger.{Transaction, Ledger, found, is_reader, value_below, newest_value, own_write}
+use Rattle.ledger.specs.Calls.{seen, granule_stamp, clash, read_keys, stamped, with_active, with_call, changed, fresh, opened as opening, installed, joins, joined, having_made, same_range}
+use Rattle.ledger.specs.History.{Operation, look, put}
 use Rattle.ledger.specs.Serial.{Table, run, run_reads}
 use Rattle.ledger.specs.Orderly.{Fine, Sound}
-use Rattle.ledger.proofs.Actives.{Keeps, joined_keeps, joined_writes, all_found, found_start, found_without, found_changed, some_same, never}
-use Rattle.ledger.proofs.Sounds.{writes_keeps}
-use Rattle.ledger.proofs.Dates.{all_stamped, all_each}
-use Rattle.ledger.proofs.Stories.{Story, acts_at, tab, run_push, run_reads_push, tab_same, value_newest, value_before, value_after, granule_kept, no_clash, own_written}
+use Rattle.ledger.proofs.Actives.{Keeps, call_keeps, joined_writes, all_found, found_start, found_without, found_changed, some_same, never}
+use Rattle.ledger.proofs.DatedVersions.{all_stamped, all_each}
+use Rattle.ledger.proofs.Stories.{Story, operations_at, tab, run_push, run_reads_push, tab_same, value_newest, value_before, value_after, granule_kept, no_clash, own_written}
 
 -- a transaction that stands at tick t + 1
 pub record Placed (s : Story) (l : Ledger) (t h : ℕ) : Type 0 where
   pub known : h ≤ l.clock
-  pub same : run_reads (s.acts h) (tab s t) ≡ s.saw h
+  pub same : run_reads (s.operations h) (tab s t) ≡ s.saw h
   pub alone : (u : Transaction) → found l.active h ≡ Some u → (is_reader u.kind ≡ true) × (h ≡ suc t)
 
 -- a key still has the value that was read
@@ -27,8 +27,8 @@ abbrev pub Still : Ledger → ℕ → Table → ℕ → Type 0
 Still l h v k = (v k ≡ newest_value k l.versions) × (granule_stamp l.limits.granule k l.versions ≤ h)
 
 pub record Opened (s : Story) (l : Ledger) (h : ℕ) (t : Transaction) : Type 0 where
-  pub own : (v : Table) (k : ℕ) → run (s.acts h) v k ≡ unwrap_or (own_write k t.writes) (v k)
-  pub saw : is_reader t.kind ≡ false → (v : Table) → AllByRecursion (Still l h v) (read_keys t.reads) → run_reads (s.acts h) v ≡ s.saw h
+  pub own : (v : Table) (k : ℕ) → run (s.operations h) v k ≡ unwrap_or (own_write k t.writes) (v k)
+  pub saw : is_reader t.kind ≡ false → (v : Table) → AllByRecursion (Still l h v) (read_keys t.reads) → run_reads (s.operations h) v ≡ s.saw h
   pub none : is_reader t.kind ≡ true → t.writes ≡ []
 
 pub record Inv (s : Story) (l : Ledger) : Type 0 where
@@ -36,19 +36,19 @@ pub record Inv (s : Story) (l : Ledger) : Type 0 where
   pub stamps : AllByRecursion (λ v. v.stamp ≤ l.clock) l.versions
   pub first : s.stands 0 ≡ None
   pub later : (t : ℕ) → l.clock < t → s.stands t ≡ None
-  pub silent : (h : ℕ) → l.clock < h → (s.acts h ≡ []) × (s.saw h ≡ [])
+  pub silent : (h : ℕ) → l.clock < h → (s.operations h ≡ []) × (s.saw h ≡ [])
   pub placed : (t h : ℕ) → s.stands (suc t) ≡ Some h → Placed s l t h
   pub value : (t k : ℕ) → t ≤ l.clock → value_below k (suc t) l.versions ≡ tab s t k
   pub opened : (h : ℕ) (t : Transaction) → found l.active h ≡ Some t → Opened s l h t
 
-found_known : (l : Ledger) → Sound l → (h : ℕ) (t : Transaction) → found l.active h ≡ Some t → h ≤ l.clock
+pub found_known : (l : Ledger) → Sound l → (h : ℕ) (t : Transaction) → found l.active h ≡ Some t → h ≤ l.clock
 found_known l s h t e = let p = all_found (Fine l.limits l.clock) l.active h t s.fine e in omega (arith, p.0.by, p.1)
 
 -- a tick at which someone stands is not past the clock
 stands_by : (s : Story) (l : Ledger) → Inv s l → (t h : ℕ) → s.stands t ≡ Some h → t ≤ l.clock
 stands_by s l i t h e = ⊎_elim (λ lt. let z : ◌≡◌ {A = ℕ} 0 1 = let q = i.later t lt in cc in absurd (omega arith)) (λ le. le) (cases_lt l.clock t)
 
-map_all : {X Y : Type 0} (f g : X → Y) (xs : List X) → AllByRecursion (λ x. f x ≡ g x) xs → map f xs ≡ map g xs
+pub map_all : {X Y : Type 0} (f g : X → Y) (xs : List X) → AllByRecursion (λ x. f x ≡ g x) xs → map f xs ≡ map g xs
 map_all f g [] a = refl
 map_all f g (x ∷ xs) a = rw (a.0, map_all f g xs a.1)
 
@@ -79,10 +79,10 @@ inv_less s l m i fine clock limits less stamps values news grans = record {
 
 -- a story in which only who stands where is changed
 abbrev pub placing : Story → (ℕ → Option ℕ) → Story
-placing s st = record { acts = s.acts; saw = s.saw; stands = st }
+placing s st = record { operations = s.operations; saw = s.saw; stands = st }
 
 tab_before : (s : Story) (st : ℕ → Option ℕ) (c t : ℕ) → ((n : ℕ) → n ≤ c → st n ≡ s.stands n) → t ≤ c → tab (placing s st) t ≡ tab s t
-tab_before s st c t e le = tab_same (placing s st) s t (λ n v lt. ap (λ o. run (acts_at s o) v) (e (suc n) (omega arith)))
+tab_before s st c t e le = tab_same (placing s st) s t (λ n v lt. ap (λ o. run (operations_at s o) v) (e (suc n) (omega arith)))
 
 module _ (s : Story) (l : Ledger) (i : Inv s l) (k : Kind) (st : ℕ → Option ℕ)
     (before : (t : ℕ) → t ≤ l.clock → st t ≡ s.stands t)
@@ -90,7 +90,7 @@ module _ (s : Story) (l : Ledger) (i : Inv s l) (k : Kind) (st : ℕ → Option 
     (here : (st (suc l.clock) ≡ None) ⊎ ((st (suc l.clock) ≡ Some (l.clock + 1)) × (is_reader k ≡ true))) where
   begin_tab : tab (placing s st) (suc l.clock) ≡ tab s l.clock
   begin_tab =
-      let quiet : acts_at s (st (suc l.clock)) ≡ [] = ⊎_elim (λ e. ap (acts_at s) e) (λ e. ap (acts_at s) e.0 ∙ (i.silent (l.clock + 1) (omega arith)).0) here in
+      let quiet : operations_at s (st (suc l.clock)) ≡ [] = ⊎_elim (λ e. ap (operations_at s) e) (λ e. ap (operations_at s) e.0 ∙ (i.silent (l.clock + 1) (omega arith)).0) here in
       ap (λ ac. run ac (tab (placing s st) l.clock)) quiet ∙ tab_before s st l.clock l.clock before (omega arith)
 
   begin_value : (t j : ℕ) → t ≤ l.clock + 1 → value_below j (suc t) l.versions ≡ tab (placing s st) t j
@@ -120,7 +120,7 @@ module _ (s : Story) (l : Ledger) (i : Inv s l) (k : Kind) (st : ℕ → Option 
       here)
       (cases_lt (l.clock + 1) (suc t)))
       (λ ge. let p = i.placed t h (sym (before (suc t) ge) ∙ e) in
-      record { known = omega (arith, p.known); same = ap (run_reads (s.acts h)) (tab_before s st l.clock t before (omega arith)) ∙ p.same; alone = λ u f. p.alone u (found_old h u (λ q. omega (arith, p.known)) f) })
+      record { known = omega (arith, p.known); same = ap (run_reads (s.operations h)) (tab_before s st l.clock t before (omega arith)) ∙ p.same; alone = λ u f. p.alone u (found_old h u (λ q. omega (arith, p.known)) f) })
       (cases_lt l.clock (suc t))
 
   begin_opened : (h : ℕ) (t : Transaction) → found (opening l k).active h ≡ Some t → Opened (placing s st) (opening l k) h t
@@ -144,36 +144,36 @@ module _ (s : Story) (l : Ledger) (i : Inv s l) (k : Kind) (st : ℕ → Option 
   }
 
 -- the transaction g did a, and saw xs in it
-abbrev pub did : Story → ℕ → Act → List (List ℕ) → Story
-did s g a xs = record { acts = λ h. cond (eqb g h) (s.acts h ++ (a ∷ [])) (s.acts h); saw = λ h. cond (eqb g h) (s.saw h ++ xs) (s.saw h); stands = s.stands }
+abbrev pub did : Story → ℕ → Operation → List (List ℕ) → Story
+did s g a xs = record { operations = λ h. cond (eqb g h) (s.operations h ++ (a ∷ [])) (s.operations h); saw = λ h. cond (eqb g h) (s.saw h ++ xs) (s.saw h); stands = s.stands }
 
-module _ (s : Story) (l : Ledger) (i : Inv s l) (g : ℕ) (u : Transaction) (f : found l.active g ≡ Some u) (a : Act) (xs : List (List ℕ)) (fn : Transaction → Transaction) (keeps : Keeps fn) where
+module _ (s : Story) (l : Ledger) (i : Inv s l) (g : ℕ) (u : Transaction) (f : found l.active g ≡ Some u) (a : Operation) (xs : List (List ℕ)) (fn : Transaction → Transaction) (keeps : Keeps fn) where
   abbrev done : Story
   done = did s g a xs
 
   abbrev next : Ledger
   next = with_active l (changed l.active g fn)
 
-  acts_mine : done.acts g ≡ s.acts g ++ (a ∷ [])
+  acts_mine : done.operations g ≡ s.operations g ++ (a ∷ [])
   acts_mine = rw (eq-eqb g g refl)
 
   saw_mine : done.saw g ≡ s.saw g ++ xs
   saw_mine = rw (eq-eqb g g refl)
 
-  acts_other : (h : ℕ) → (g ≡ h → ⊥) → done.acts h ≡ s.acts h
+  acts_other : (h : ℕ) → (g ≡ h → ⊥) → done.operations h ≡ s.operations h
   acts_other h ne = rw (ne_eqb g h ne)
 
   saw_other : (h : ℕ) → (g ≡ h → ⊥) → done.saw h ≡ s.saw h
   saw_other h ne = rw (ne_eqb g h ne)
 
-  did_placed : ((t : ℕ) → tab done t ≡ tab s t) → ((t : ℕ) → s.stands (suc t) ≡ Some g → run_reads (s.acts g ++ (a ∷ [])) (tab s t) ≡ s.saw g ++ xs) → (t h : ℕ) → s.stands (suc t) ≡ Some h → Placed done next t h
+  did_placed : ((t : ℕ) → tab done t ≡ tab s t) → ((t : ℕ) → s.stands (suc t) ≡ Some g → run_reads (s.operations g ++ (a ∷ [])) (tab s t) ≡ s.saw g ++ xs) → (t h : ℕ) → s.stands (suc t) ≡ Some h → Placed done next t h
   did_placed tabs mine t h e =
       let p = i.placed t h e in
       record {
         known = p.known;
         same = ⊎_elim
-            (λ is. subst (λ x. run_reads (done.acts x) (tab done t) ≡ done.saw x) is (ap (run_reads (done.acts g)) (tabs t) ∙ ap (λ ac. run_reads ac (tab s t)) acts_mine ∙ mine t (subst (λ x. s.stands (suc t) ≡ Some x) (sym is) e) ∙ sym saw_mine))
-            (λ ne. ap (run_reads (done.acts h)) (tabs t) ∙ ap (λ ac. run_reads ac (tab s t)) (acts_other h ne) ∙ p.same ∙ sym (saw_other h ne))
+            (λ is. subst (λ x. run_reads (done.operations x) (tab done t) ≡ done.saw x) is (ap (run_reads (done.operations g)) (tabs t) ∙ ap (λ ac. run_reads ac (tab s t)) acts_mine ∙ mine t (subst (λ x. s.stands (suc t) ≡ Some x) (sym is) e) ∙ sym saw_mine))
+            (λ ne. ap (run_reads (done.operations h)) (tabs t) ∙ ap (λ ac. run_reads ac (tab s t)) (acts_other h ne) ∙ p.same ∙ sym (saw_other h ne))
             (cases_eq g h);
         alone = λ x q. ⊎_elim
             (λ me. let r = p.alone me.1.0 me.1.1 in (ap (λ y. is_reader y.kind) me.1.2 ∙ ap is_reader (keeps.kind me.1.0) ∙ r.0, r.1))
@@ -193,7 +193,7 @@ module _ (s : Story) (l : Ledger) (i : Inv s l) (g : ℕ) (u : Transaction) (f :
       })
       (found_changed l.active g fn keeps h t q)
 
-  pub inv_did : Sound next → ((t : ℕ) → tab done t ≡ tab s t) → ((t : ℕ) → s.stands (suc t) ≡ Some g → run_reads (s.acts g ++ (a ∷ [])) (tab s t) ≡ s.saw g ++ xs) → Opened done next g (fn u) → Inv done next
+  pub inv_did : Sound next → ((t : ℕ) → tab done t ≡ tab s t) → ((t : ℕ) → s.stands (suc t) ≡ Some g → run_reads (s.operations g ++ (a ∷ [])) (tab s t) ≡ s.saw g ++ xs) → Opened done next g (fn u) → Inv done next
   inv_did fine tabs mine mine' = record {
     fine = fine;
     stamps = i.stamps;
@@ -206,30 +206,30 @@ module _ (s : Story) (l : Ledger) (i : Inv s l) (g : ℕ) (u : Transaction) (f :
   }
 
 -- the keys of a read are in the read list that it leaves
-pub read_keys_push : (rs : List Range) (r : Range) → read_keys (rs ++ (r ∷ [])) ≡ read_keys rs ++ (keys_from r.first r.count ++ [])
+pub read_keys_push : (rs : List Range) (r : Range) → read_keys (rs ++ (r ∷ [])) ≡ read_keys rs ++ (range_with_len r.first r.count ++ [])
 read_keys_push [] r = refl
-read_keys_push (x ∷ rs) r = ap (λ ks. keys_from x.first x.count ++ ks) (read_keys_push rs r) ∙ sym (append_assoc (keys_from x.first x.count) (read_keys rs) (keys_from r.first r.count ++ []))
+read_keys_push (x ∷ rs) r = ap (λ ks. range_with_len x.first x.count ++ ks) (read_keys_push rs r) ∙ sym (append_assoc (range_with_len x.first x.count) (read_keys rs) (range_with_len r.first r.count ++ []))
 
-any_covers : (P : ℕ → Type 0) (k n : ℕ) (rs : List Range) → any (same_range k n) rs ≡ true → AllByRecursion P (read_keys rs) → AllByRecursion P (keys_from k n)
+any_covers : (P : ℕ → Type 0) (k n : ℕ) (rs : List Range) → list_any (same_range k n) rs ≡ true → AllByRecursion P (read_keys rs) → AllByRecursion P (range_with_len k n)
 any_covers P k n [] e al = cc
 any_covers P k n (r ∷ rs) e al = ⊎_elim
     (λ q. let p = and_parts (eqb r.first k) (eqb r.count n) q in
-    subst (λ x. AllByRecursion P (keys_from x n)) (eqb-true _ _ p.0) (subst (λ y. AllByRecursion P (keys_from r.first y)) (eqb-true _ _ p.1) (all_left P (keys_from r.first r.count) (read_keys rs) al)))
-    (λ q. any_covers P k n rs q (all_right P (keys_from r.first r.count) (read_keys rs) al))
-    (or_cases (same_range k n r) (any (same_range k n) rs) e)
+    subst (λ x. AllByRecursion P (range_with_len x n)) (eqb-true _ _ p.0) (subst (λ y. AllByRecursion P (range_with_len r.first y)) (eqb-true _ _ p.1) (all_left P (range_with_len r.first r.count) (read_keys rs) al)))
+    (λ q. any_covers P k n rs q (all_right P (range_with_len r.first r.count) (read_keys rs) al))
+    (or_cases (same_range k n r) (list_any (same_range k n) rs) e)
 
-pub joined_covers : (P : ℕ → Type 0) (u : Transaction) (k n : ℕ) → is_reader u.kind ≡ false → AllByRecursion P (read_keys (joined u k n).reads) → AllByRecursion P (read_keys u.reads) × AllByRecursion P (keys_from k n)
+pub joined_covers : (P : ℕ → Type 0) (u : Transaction) (k n : ℕ) → is_reader u.kind ≡ false → AllByRecursion P (read_keys (joined u k n).reads) → AllByRecursion P (read_keys u.reads) × AllByRecursion P (range_with_len k n)
 joined_covers P u k n upd al = go (joins u k n) refl al
   where
-    go : (j : Bool) → joins u k n ≡ j → AllByRecursion P (read_keys (cond j (record { start = u.start; kind = u.kind; reads = u.reads ++ (record { first = k; count = n } ∷ []); writes = u.writes }) u).reads) → AllByRecursion P (read_keys u.reads) × AllByRecursion P (keys_from k n)
-    go true e q = let r = subst (AllByRecursion P) (read_keys_push u.reads (record { first = k; count = n })) q in (all_left P (read_keys u.reads) _ r, all_left P (keys_from k n) [] (all_right P (read_keys u.reads) (keys_from k n ++ []) r))
+    go : (j : Bool) → joins u k n ≡ j → AllByRecursion P (read_keys (cond j (record { start = u.start; kind = u.kind; reads = u.reads ++ (record { first = k; count = n } ∷ []); writes = u.writes }) u).reads) → AllByRecursion P (read_keys u.reads) × AllByRecursion P (range_with_len k n)
+    go true e q = let r = subst (AllByRecursion P) (read_keys_push u.reads (record { first = k; count = n })) q in (all_left P (read_keys u.reads) _ r, all_left P (range_with_len k n) [] (all_right P (read_keys u.reads) (range_with_len k n ++ []) r))
     go false e q = (q, rest (ltb 0 n) refl)
       where
-        rest : (b : Bool) → ltb 0 n ≡ b → AllByRecursion P (keys_from k n)
+        rest : (b : Bool) → ltb 0 n ≡ b → AllByRecursion P (range_with_len k n)
         rest true p =
-            let j : (not false && (true && not (any (same_range k n) u.reads))) ≡ false = rw (upd, p) at e in
+            let j : (not false && (true && not (list_any (same_range k n) u.reads))) ≡ false = rw (upd, p) at e in
             any_covers P k n u.reads (not-false _ j) q
-        rest false p = let z : n ≡ 0 = omega (arith, ltb-false 0 n p) in subst (λ m. AllByRecursion P (keys_from k m)) (sym z) tt
+        rest false p = let z : n ≡ 0 = omega (arith, ltb-false 0 n p) in subst (λ m. AllByRecursion P (range_with_len k m)) (sym z) tt
 
 eqb_sym : (a b : ℕ) → eqb a b ≡ eqb b a
 eqb_sym a b = ⊎_elim (λ e. eq-eqb a b e ∙ sym (eq-eqb b a (sym e))) (λ ne. ne_eqb a b ne ∙ sym (ne_eqb b a (λ e. ne (sym e)))) (cases_eq a b)
@@ -243,65 +243,65 @@ module _ (s : Story) (l : Ledger) (i : Inv s l) (g : ℕ) (u : Transaction) (f :
   stands_not : is_reader u.kind ≡ false → {P : Type 0} (t : ℕ) → s.stands (suc t) ≡ Some g → P
   stands_not upd t e = let reads = ((i.placed t g e).alone u f).0 in cc
 
-  write_tab : (k x : ℕ) → is_reader u.kind ≡ false → (t : ℕ) → tab (did s g (sets k x) []) t ≡ tab s t
-  write_tab k x upd t = tab_same (did s g (sets k x) []) s t (λ n v le. go n v (s.stands (suc n)) refl)
+  write_tab : (k x : ℕ) → is_reader u.kind ≡ false → (t : ℕ) → tab (did s g (put k x) []) t ≡ tab s t
+  write_tab k x upd t = tab_same (did s g (put k x) []) s t (λ n v le. go n v (s.stands (suc n)) refl)
     where
-      go : (n : ℕ) (v : Table) (o : Option ℕ) → s.stands (suc n) ≡ o → run (acts_at (did s g (sets k x) []) o) v ≡ run (acts_at s o) v
+      go : (n : ℕ) (v : Table) (o : Option ℕ) → s.stands (suc n) ≡ o → run (operations_at (did s g (put k x) []) o) v ≡ run (operations_at s o) v
       go n v None e = refl
-      go n v (Some h) e = ⊎_elim (λ is. stands_not upd n (subst (λ y. s.stands (suc n) ≡ Some y) (sym is) e)) (λ ne. ap (λ ac. run ac v) (acts_other s l i g u f (sets k x) [] (λ t. wrote t k x) (writes_keeps k x) h ne)) (cases_eq g h)
+      go n v (Some h) e = ⊎_elim (λ is. stands_not upd n (subst (λ y. s.stands (suc n) ≡ Some y) (sym is) e)) (λ ne. ap (λ ac. run ac v) (acts_other s l i g u f (put k x) [] (λ t. having_made t (Call.Write g k x)) (call_keeps (Call.Write g k x)) h ne)) (cases_eq g h)
 
-  pub inv_write : (k x : ℕ) → is_reader u.kind ≡ false → Sound (with_active l (changed l.active g (λ t. wrote t k x))) → Inv (did s g (sets k x) []) (with_active l (changed l.active g (λ t. wrote t k x)))
+  pub inv_write : (k x : ℕ) → is_reader u.kind ≡ false → Sound (with_call l g (Call.Write g k x)) → Inv (did s g (put k x) []) (with_call l g (Call.Write g k x))
   inv_write k x upd fine =
       let o = i.opened g u f in
-      let fn : Transaction → Transaction = λ t. wrote t k x in
-      let mine = acts_mine s l i g u f (sets k x) [] fn (writes_keeps k x) in
-      inv_did s l i g u f (sets k x) [] fn (writes_keeps k x) fine (write_tab k x upd) (λ t e. stands_not upd t e)
+      let fn : Transaction → Transaction = λ t. having_made t (Call.Write g k x) in
+      let mine = acts_mine s l i g u f (put k x) [] fn (call_keeps (Call.Write g k x)) in
+      inv_did s l i g u f (put k x) [] fn (call_keeps (Call.Write g k x)) fine (write_tab k x upd) (λ t e. stands_not upd t e)
       (record {
-        own = λ v j. ap (λ ac. run ac v j) mine ∙ ap (λ w. w j) (run_push (s.acts g) (sets k x) v) ∙ ap (cond (eqb j k) x) (o.own v j) ∙ value_cond (eqb j k) x (v j) (own_write j u.writes) ∙ ap (λ b. unwrap_or (cond b (Some x) (own_write j u.writes)) (v j)) (eqb_sym j k) ∙ ap (λ q. unwrap_or q (v j)) (sym (own_written j k x u.writes));
-        saw = λ r v al. ap (λ ac. run_reads ac v) mine ∙ run_reads_push (s.acts g) (sets k x) v ∙ ap (λ ys. ys ++ []) (o.saw r v al) ∙ sym (saw_mine s l i g u f (sets k x) [] fn (writes_keeps k x));
+        own = λ v j. ap (λ ac. run ac v j) mine ∙ ap (λ w. w j) (run_push (s.operations g) (put k x) v) ∙ ap (cond (eqb j k) x) (o.own v j) ∙ value_cond (eqb j k) x (v j) (own_write j u.writes) ∙ ap (λ b. unwrap_or (cond b (Some x) (own_write j u.writes)) (v j)) (eqb_sym j k) ∙ ap (λ q. unwrap_or q (v j)) (sym (own_written j k x u.writes));
+        saw = λ r v al. ap (λ ac. run_reads ac v) mine ∙ run_reads_push (s.operations g) (put k x) v ∙ ap (λ ys. ys ++ []) (o.saw r v al) ∙ sym (saw_mine s l i g u f (put k x) [] fn (call_keeps (Call.Write g k x)));
         none = λ r. cc;
       })
 
-  read_tab : (k n : ℕ) (xs : List (List ℕ)) (t : ℕ) → tab (did s g (looks k n) xs) t ≡ tab s t
-  read_tab k n xs t = tab_same (did s g (looks k n) xs) s t (λ m v le. go v (s.stands (suc m)))
+  read_tab : (k n : ℕ) (xs : List (List ℕ)) (t : ℕ) → tab (did s g (look k n) xs) t ≡ tab s t
+  read_tab k n xs t = tab_same (did s g (look k n) xs) s t (λ m v le. go v (s.stands (suc m)))
     where
-      go : (v : Table) (o : Option ℕ) → run (acts_at (did s g (looks k n) xs) o) v ≡ run (acts_at s o) v
+      go : (v : Table) (o : Option ℕ) → run (operations_at (did s g (look k n) xs) o) v ≡ run (operations_at s o) v
       go v None = refl
-      go v (Some h) = cond_both (eqb g h) (s.acts h ++ (looks k n ∷ [])) (s.acts h) (λ ac. run ac v ≡ run (s.acts h) v) (λ _. run_push (s.acts h) (looks k n) v) (λ _. refl)
+      go v (Some h) = cond_both (eqb g h) (s.operations h ++ (look k n ∷ [])) (s.operations h) (λ ac. run ac v ≡ run (s.operations h) v) (λ _. run_push (s.operations h) (look k n) v) (λ _. refl)
 
   -- what a reader sees is the table at its tick
-  read_placed : (k n t : ℕ) → s.stands (suc t) ≡ Some g → run_reads (s.acts g ++ (looks k n ∷ [])) (tab s t) ≡ s.saw g ++ (map (seen l u) (keys_from k n) ∷ [])
+  read_placed : (k n t : ℕ) → s.stands (suc t) ≡ Some g → run_reads (s.operations g ++ (look k n ∷ [])) (tab s t) ≡ s.saw g ++ (map (seen l u) (range_with_len k n) ∷ [])
   read_placed k n t e =
       let p = i.placed t g e in
       let r = p.alone u f in
       let o = i.opened g u f in
       let le : t ≤ l.clock = omega (arith, stands_by s l i (suc t) g e) in
-      let each : (j : ℕ) → run (s.acts g) (tab s t) j ≡ seen l u j = λ j.
+      let each : (j : ℕ) → run (s.operations g) (tab s t) j ≡ seen l u j = λ j.
       o.own (tab s t) j ∙ ap (λ ws. unwrap_or (own_write j ws) (tab s t j)) (o.none r.0) ∙ sym (i.value t j le) ∙ ap (λ x. value_below j x l.versions) (sym (found_start l.active g u f ∙ r.1)) ∙ ap (λ b. cond b (value_below j u.start l.versions) (unwrap_or (own_write j u.writes) (newest_value j l.versions))) (sym r.0) in
-      run_reads_push (s.acts g) (looks k n) (tab s t) ∙ ap (λ ys. ys ++ (map (run (s.acts g) (tab s t)) (keys_from k n) ∷ [])) p.same ∙ ap (λ ys. s.saw g ++ (ys ∷ [])) (map_all _ (seen l u) (keys_from k n) (all_each _ each (keys_from k n)))
+      run_reads_push (s.operations g) (look k n) (tab s t) ∙ ap (λ ys. ys ++ (map (run (s.operations g) (tab s t)) (range_with_len k n) ∷ [])) p.same ∙ ap (λ ys. s.saw g ++ (ys ∷ [])) (map_all _ (seen l u) (range_with_len k n) (all_each _ each (range_with_len k n)))
 
-  pub inv_read : (k n : ℕ) → Sound (with_active l (changed l.active g (λ t. joined t k n))) → Inv (did s g (looks k n) (map (seen l u) (keys_from k n) ∷ [])) (with_active l (changed l.active g (λ t. joined t k n)))
+  pub inv_read : (k n : ℕ) → Sound (with_call l g (Call.Read g k n)) → Inv (did s g (look k n) (map (seen l u) (range_with_len k n) ∷ [])) (with_call l g (Call.Read g k n))
   inv_read k n fine =
       let o = i.opened g u f in
-      let xs = map (seen l u) (keys_from k n) ∷ [] in
-      let fn : Transaction → Transaction = λ t. joined t k n in
-      let mine = acts_mine s l i g u f (looks k n) xs fn (joined_keeps k n) in
-      let kind : (joined u k n).kind ≡ u.kind = (joined_keeps k n).kind u in
-      inv_did s l i g u f (looks k n) xs fn (joined_keeps k n) fine (read_tab k n xs) (read_placed k n)
+      let xs = map (seen l u) (range_with_len k n) ∷ [] in
+      let fn : Transaction → Transaction = λ t. having_made t (Call.Read g k n) in
+      let mine = acts_mine s l i g u f (look k n) xs fn (call_keeps (Call.Read g k n)) in
+      let kind : (joined u k n).kind ≡ u.kind = (call_keeps (Call.Read g k n)).kind u in
+      inv_did s l i g u f (look k n) xs fn (call_keeps (Call.Read g k n)) fine (read_tab k n xs) (read_placed k n)
       (record {
-        own = λ v j. ap (λ ac. run ac v j) mine ∙ ap (λ w. w j) (run_push (s.acts g) (looks k n) v) ∙ o.own v j ∙ ap (λ ws. unwrap_or (own_write j ws) (v j)) (sym (joined_writes u k n));
+        own = λ v j. ap (λ ac. run ac v j) mine ∙ ap (λ w. w j) (run_push (s.operations g) (look k n) v) ∙ o.own v j ∙ ap (λ ws. unwrap_or (own_write j ws) (v j)) (sym (joined_writes u k n));
         saw = λ r v al.
             let upd : is_reader u.kind ≡ false = ap is_reader (sym kind) ∙ r in
             let c = joined_covers (Still l g v) u k n upd al in
-            let each : AllByRecursion (λ j. run (s.acts g) v j ≡ seen l u j) (keys_from k n) = All-weaker (Still l g v) (λ j. run (s.acts g) v j ≡ seen l u j) (λ j q. o.own v j ∙ ap (unwrap_or (own_write j u.writes)) q.0 ∙ ap (λ b. cond b (value_below j u.start l.versions) (unwrap_or (own_write j u.writes) (newest_value j l.versions))) (sym upd)) (keys_from k n) c.1 in
-            ap (λ ac. run_reads ac v) mine ∙ run_reads_push (s.acts g) (looks k n) v ∙ ap (λ ys. ys ++ (map (run (s.acts g) v) (keys_from k n) ∷ [])) (o.saw upd v c.0) ∙ ap (λ ys. s.saw g ++ (ys ∷ [])) (map_all _ (seen l u) (keys_from k n) each) ∙ sym (saw_mine s l i g u f (looks k n) xs fn (joined_keeps k n));
+            let each : AllByRecursion (λ j. run (s.operations g) v j ≡ seen l u j) (range_with_len k n) = All-weaker (Still l g v) (λ j. run (s.operations g) v j ≡ seen l u j) (λ j q. o.own v j ∙ ap (unwrap_or (own_write j u.writes)) q.0 ∙ ap (λ b. cond b (value_below j u.start l.versions) (unwrap_or (own_write j u.writes) (newest_value j l.versions))) (sym upd)) (range_with_len k n) c.1 in
+            ap (λ ac. run_reads ac v) mine ∙ run_reads_push (s.operations g) (look k n) v ∙ ap (λ ys. ys ++ (map (run (s.operations g) v) (range_with_len k n) ∷ [])) (o.saw upd v c.0) ∙ ap (λ ys. s.saw g ++ (ys ∷ [])) (map_all _ (seen l u) (range_with_len k n) each) ∙ sym (saw_mine s l i g u f (look k n) xs fn (call_keeps (Call.Read g k n)));
         none = λ r. joined_writes u k n ∙ o.none (ap is_reader (sym kind) ∙ r);
       })
 
 abbrev pub stood : Story → ℕ → ℕ → Story
 stood s c g = placing s (λ t. cond (eqb c t) (Some g) (s.stands t))
 
-module _ (s : Story) (l : Ledger) (i : Inv s l) (g : ℕ) (u : Transaction) (f : found l.active g ≡ Some u) (upd : is_reader u.kind ≡ false) (clear : first_clash l.limits.granule l.versions u.start (read_keys u.reads) ≡ None) where
+module _ (s : Story) (l : Ledger) (i : Inv s l) (g : ℕ) (u : Transaction) (f : found l.active g ≡ Some u) (upd : is_reader u.kind ≡ false) (no_clash_left : clash l u ≡ None) where
   abbrev c : ℕ
   c = l.clock + 1
 
@@ -311,16 +311,16 @@ module _ (s : Story) (l : Ledger) (i : Inv s l) (g : ℕ) (u : Transaction) (f :
   commit_old : (t : ℕ) → t ≤ l.clock → tab (stood s c g) t ≡ tab s t
   commit_old t le = tab_before s (stood s c g).stands l.clock t commit_before le
 
-  commit_tab : tab (stood s c g) (suc l.clock) ≡ run (s.acts g) (tab s l.clock)
+  commit_tab : tab (stood s c g) (suc l.clock) ≡ run (s.operations g) (tab s l.clock)
   commit_tab =
       let here : (stood s c g).stands (suc l.clock) ≡ Some g = rw (eq-eqb (l.clock + 1) (suc l.clock) (omega arith)) in
-      ap (λ o. run (acts_at s o) (tab (stood s c g) l.clock)) here ∙ ap (run (s.acts g)) (commit_old l.clock (omega arith))
+      ap (λ o. run (operations_at s o) (tab (stood s c g) l.clock)) here ∙ ap (run (s.operations g)) (commit_old l.clock (omega arith))
 
-  commit_saw : run_reads (s.acts g) (tab s l.clock) ≡ s.saw g
+  commit_saw : run_reads (s.operations g) (tab s l.clock) ≡ s.saw g
   commit_saw =
       let at = found_start l.active g u f in
       let newest : (k : ℕ) → tab s l.clock k ≡ newest_value k l.versions = λ k. sym (i.value l.clock k (omega arith)) ∙ value_newest k l.clock (suc l.clock) l.versions i.stamps (omega arith) in
-      (i.opened g u f).saw upd (tab s l.clock) (All-weaker (λ k. granule_stamp l.limits.granule k l.versions ≤ u.start) (Still l g (tab s l.clock)) (λ k q. (newest k, subst (λ x. granule_stamp l.limits.granule k l.versions ≤ x) at q)) (read_keys u.reads) (no_clash l.limits.granule l.versions u.start (read_keys u.reads) clear))
+      (i.opened g u f).saw upd (tab s l.clock) (All-weaker (λ k. granule_stamp l.limits.granule k l.versions ≤ u.start) (Still l g (tab s l.clock)) (λ k q. (newest k, subst (λ x. granule_stamp l.limits.granule k l.versions ≤ x) at q)) (read_keys u.reads) (no_clash l.limits.granule l.versions u.start (read_keys u.reads) no_clash_left))
 
   commit_placed : (t h : ℕ) → (stood s c g).stands (suc t) ≡ Some h → Placed (stood s c g) (installed l u) t h
   commit_placed t h e = ⊎_elim
@@ -330,13 +330,13 @@ module _ (s : Story) (l : Ledger) (i : Inv s l) (g : ℕ) (u : Transaction) (f :
       subst (λ x. Placed (stood s c g) (installed l u) x h) (sym t-is) (subst (λ x. Placed (stood s c g) (installed l u) l.clock x) h-is
       (record {
         known = omega (arith, found_known l i.fine g u f);
-        same = ap (run_reads (s.acts g)) (commit_old l.clock (omega arith)) ∙ commit_saw;
+        same = ap (run_reads (s.operations g)) (commit_old l.clock (omega arith)) ∙ commit_saw;
         alone = λ x q. absurd ((found_without l.active u.start g x q).1 (sym (found_start l.active g u f)));
       })))
       (λ ne. let e' : s.stands (suc t) ≡ Some h = rw (ne_eqb (l.clock + 1) (suc t) ne) at e in
       let p = i.placed t h e' in
       let le = stands_by s l i (suc t) h e' in
-      record { known = omega (arith, p.known); same = ap (run_reads (s.acts h)) (commit_old t (omega arith)) ∙ p.same; alone = λ x q. p.alone x (found_without l.active u.start h x q).0 })
+      record { known = omega (arith, p.known); same = ap (run_reads (s.operations h)) (commit_old t (omega arith)) ∙ p.same; alone = λ x q. p.alone x (found_without l.active u.start h x q).0 })
       (cases_eq (l.clock + 1) (suc t))
 
   commit_value : (t k : ℕ) → t ≤ l.clock + 1 → value_below k (suc t) (installed l u).versions ≡ tab (stood s c g) t k

@@ -1,7 +1,11 @@
--- The six calls on the ledger: the answer, the caller's buffer afterwards, and the ledger afterwards.
-use Rattle.std.specs.Prelude.{ℕ, zero, suc, ◌+◌, ◌-◌, max, Bool, true, false, if◌then◌else◌, not, ◌&&◌, List, [], ◌∷◌, ◌++◌, map, length, drop, Some, None, filter, Option, ◌==◌, nat_le, nat_lt}
-use Rattle.std.specs.Option.{unwrap_or}
+-- The calls on the ledger: why each is refused, and what an accepted one answers, leaves in the caller's buffer, and makes of the ledger.
+use Rattle.std.specs.Prelude.{ℕ, ◌+◌, max, Bool, true, false, if◌then◌else◌, not, ◌&&◌, List, [], ◌∷◌, ◌++◌, map, length, drop, Some, None, filter, Option, Ok, Err, Result, ◌==◌, nat_le, nat_lt}
+use Rattle.std.specs.List.{find, list_any, range_with_len}
+use Rattle.std.specs.Option.{is_some, option_map, unwrap_or}
+use Rattle.std.specs.Result.{result_and, result_map_both}
+use Rattle.ledger.specs.declared.TheConstants.{MAX_ACTIVE, MAX_READS, MAX_WRITES}
 use Rattle.ledger.specs.declared.Kind.{Kind}
+use Rattle.ledger.specs.declared.Kind.TheVariants.{Updater}
 use Rattle.ledger.specs.declared.Range.{Range}
 use Rattle.ledger.specs.declared.Write.{Write as Entry}
 use Rattle.ledger.specs.declared.Fault.{Fault}
@@ -9,20 +13,43 @@ use Rattle.ledger.specs.declared.Fault.TheVariants.{KeyOutside, ShortBuffer, NoT
 use Rattle.ledger.specs.declared.Verdict.{Verdict}
 use Rattle.ledger.specs.declared.Verdict.TheVariants.{Closed, Restart, Spent, Full, Committed}
 use Rattle.ledger.specs.declared.Call.{Call}
-use Rattle.ledger.specs.declared.Call.TheVariants.{Begin, Read, Write, Commit, Abort, Reclaim}
-use Rattle.ledger.specs.declared.Answer.{Answer}
-use Rattle.ledger.specs.declared.Answer.TheVariants.{Began, Read as ReadDone, Wrote, Ended, Aborted, Reclaimed, Refused}
-use Rattle.ledger.specs.Ledger.{Transaction, Version, Ledger, found, is_reader, trim_tick, any, dead, present_count, dead_count, value_below, newest_value, own_write, written}
+use Rattle.ledger.specs.declared.Done.{Done}
+use Rattle.ledger.specs.Ledger.{Transaction, Version, Ledger, Shortage, handle_of, moment_of, found, is_reader, trim_tick, dead, present_count, dead_count, shortage, value_below, newest_value, own_write, written}
+
+-- Outcomes
 
 -- what a call answers, what it leaves in the caller's buffer, and the ledger after it
 pub record Outcome : Type 0 where
-  pub answer : Answer
+  pub answer : Result Done Fault
   pub buffer : List ℕ
   pub ledger : Ledger
 
+-- what an accepted call does
+pub record Effect : Type 0 where
+  pub done : Done
+  pub buffer : List ℕ
+  pub ledger : Ledger
+
+abbrev pub accepted : Effect → Outcome
+accepted e = record { answer = Ok e.done; buffer = e.buffer; ledger = e.ledger }
+
 -- a refused call leaves ledger and buffer as they were
 abbrev pub refused : Ledger → List ℕ → Fault → Outcome
-refused l b f = record { answer = Refused f; buffer = b; ledger = l }
+refused l b f = record { answer = Err f; buffer = b; ledger = l }
+
+-- a call is refused, or it has its effect
+abbrev pub outcome : Ledger → List ℕ → Result Effect Fault → Outcome
+outcome l b (Ok e) = accepted e
+outcome l b (Err f) = refused l b f
+
+-- a call that passes its check has the effect of what the check gives
+abbrev pub if_passed : {X : Type 0} → Result X Fault → (X → Effect) → Result Effect Fault
+if_passed r effect = result_map_both effect (λ f. f) r
+
+abbrev pub checked : {X : Type 0} → Ledger → List ℕ → Result X Fault → (X → Effect) → Outcome
+checked l b r effect = outcome l b (if_passed r effect)
+
+-- Transactions
 
 -- the ledger with other active transactions
 abbrev pub with_active : Ledger → List Transaction → Ledger
@@ -30,19 +57,88 @@ with_active l ts = record l { active = ts }
 
 -- the transaction with this handle is gone
 abbrev pub without : List Transaction → ℕ → List Transaction
-without ts h = filter (λ t. not (t.start == h)) ts
+without ts h = filter (λ t. not (handle_of t == h)) ts
 
 -- the transaction with this handle is changed by f
 abbrev pub changed : List Transaction → ℕ → (Transaction → Transaction) → List Transaction
-changed ts h f = map (λ u. if u.start == h then f u else u) ts
+changed ts h f = map (λ u. if handle_of u == h then f u else u) ts
+
+-- this very first key and count
+abbrev pub same_range : ℕ → ℕ → Range → Bool
+same_range k n r = r.first == k && r.count == n
+
+-- only an updater's range of at least one key joins its read list, unless that same range is there
+abbrev pub joins : Transaction → ℕ → ℕ → Bool
+joins t k n = not (is_reader t.kind) && (nat_lt 0 n && not (list_any (same_range k n) t.reads))
+
+-- the transaction once its read list has the range, if it joins
+abbrev pub joined : Transaction → ℕ → ℕ → Transaction
+joined t k n = if joins t k n then record t { reads = t.reads ++ (record { first = k; count = n } ∷ []) } else t
+
+-- the transaction with the write in its list
+abbrev pub wrote : Transaction → ℕ → ℕ → Transaction
+wrote t k x = record t { writes = written t.writes k x }
+
+-- the transaction once it has made a call
+abbrev pub having_made : Transaction → Call → Transaction
+having_made t (Call.Read h k n) = joined t k n
+having_made t (Call.Write h k x) = wrote t k x
+having_made t _ = t
+
+-- Checks: why a call is refused, each reason in its turn
 
 -- the clock has reached the last tick
-abbrev pub out_of_ticks : Ledger → Bool
-out_of_ticks l = nat_le l.limits.last l.clock
+abbrev pub out_of_ticks : ℕ → ℕ → Bool
+out_of_ticks clock last = nat_le last clock
 
--- the keys k, k + 1, .., n of them, are in the table
-abbrev pub in_table : Ledger → ℕ → ℕ → Bool
-in_table l k n = nat_le (k + n) l.limits.keys
+-- the keys k, k + 1, .., n of them, are among so many
+abbrev pub in_table : ℕ → ℕ → ℕ → Bool
+in_table keys k n = nat_le (k + n) keys
+
+-- a key that is new to a full write list
+abbrev pub no_room : List Entry → ℕ → Bool
+no_room ws k = not (is_some (own_write k ws)) && nat_le MAX_WRITES (length ws)
+
+-- where so many are active: as many as may be are, then a spent clock
+abbrev pub begin_check : ℕ → ℕ → ℕ → Result (Unit {0}) Fault
+begin_check active clock last =
+    if nat_le MAX_ACTIVE active then Err TooManyActive
+    else if out_of_ticks clock last then Err (ClockSpent last)
+    else Ok tt
+
+-- n keys from k on, on a table of so many keys, to be read into a buffer of this length
+abbrev pub range_check : ℕ → ℕ → ℕ → ℕ → Result (Unit {0}) Fault
+range_check keys room k n =
+    if not (in_table keys k n) then Err (KeyOutside k)
+    else if nat_lt room n then Err (ShortBuffer room)
+    else Ok tt
+
+-- the same range, for the read list of t
+abbrev pub join_check : Transaction → ℕ → ℕ → Result (Unit {0}) Fault
+join_check t k n = if joins t k n && nat_le MAX_READS (length t.reads) then Err (ReadListFull (handle_of t)) else Ok tt
+
+-- a read by t: both, in this order
+abbrev pub read_check : ℕ → ℕ → Transaction → ℕ → ℕ → Result (Unit {0}) Fault
+read_check keys room t k n = result_and (range_check keys room k n) (join_check t k n)
+
+-- a write by t to the key k
+abbrev pub write_check : ℕ → Transaction → ℕ → Result (Unit {0}) Fault
+write_check keys t k =
+    if is_reader t.kind then Err (ReaderWrites (handle_of t))
+    else if not (in_table keys k 1) then Err (KeyOutside k)
+    else if no_room t.writes k then Err (WriteListFull (handle_of t))
+    else Ok tt
+
+-- a call by the transaction t; it may always commit or abort
+abbrev pub transaction_check : ℕ → ℕ → Transaction → Call → Result (Unit {0}) Fault
+transaction_check keys room t (Call.Read h k n) = read_check keys room t k n
+transaction_check keys room t (Call.Write h k x) = write_check keys t k
+transaction_check keys room t _ = Ok tt
+
+-- the transaction that makes a call under the handle h, if there is one and it may
+abbrev pub maker : ℕ → ℕ → ℕ → Call → Option Transaction → Result Transaction Fault
+maker keys room h c None = Err (NoTransaction h)
+maker keys room h c (Some t) = result_map_both (λ _. t) (λ f. f) (transaction_check keys room t c)
 
 -- Begin
 
@@ -54,82 +150,35 @@ fresh s kind = record { start = s; kind = kind; reads = []; writes = [] }
 abbrev pub opened : Ledger → Kind → Ledger
 opened l kind = record l { clock = l.clock + 1; active = fresh (l.clock + 1) kind ∷ l.active }
 
--- begin: 16 active are refused, then a spent clock; else the next tick is start and handle
-abbrev pub begin_call : Ledger → List ℕ → Kind → Outcome
-begin_call l b kind =
-    if nat_le 16 (length l.active) then refused l b TooManyActive
-    else if out_of_ticks l then refused l b (ClockSpent l.limits.last)
-    else record { answer = Began (l.clock + 1); buffer = b; ledger = opened l kind }
+-- the next tick is start and handle
+abbrev pub begin_effect : Ledger → List ℕ → Kind → Effect
+begin_effect l b kind = record { done = Done.Began (l.clock + 1); buffer = b; ledger = opened l kind }
 
 -- Read
 
 -- what a transaction reads at a key: a reader as of its start, an updater its own write or else the newest value
 abbrev pub seen : Ledger → Transaction → ℕ → ℕ
 seen l t k =
-    if is_reader t.kind then value_below k t.start l.versions
+    if is_reader t.kind then value_below k (moment_of t) l.versions
     else unwrap_or (own_write k t.writes) (newest_value k l.versions)
 
--- the keys k, k + 1, .., n of them
-abbrev pub keys_from : ℕ → ℕ → List ℕ
-keys_from k zero = []
-keys_from k (suc n) = k ∷ keys_from (k + 1) n
+-- the ledger whose transaction h has made a call
+abbrev pub with_call : Ledger → ℕ → Call → Ledger
+with_call l h c = with_active l (changed l.active h (λ u. having_made u c))
 
--- this very first key and count
-abbrev pub same_range : ℕ → ℕ → Range → Bool
-same_range k n r = r.first == k && r.count == n
-
--- only an updater's range of at least one key joins its read list, unless that same range is there
-abbrev pub joins : Transaction → ℕ → ℕ → Bool
-joins t k n = not (is_reader t.kind) && (nat_lt 0 n && not (any (same_range k n) t.reads))
-
--- the transaction once its read list has the range, if it joins
-abbrev pub joined : Transaction → ℕ → ℕ → Transaction
-joined t k n = if joins t k n then record t { reads = t.reads ++ (record { first = k; count = n } ∷ []) } else t
-
--- a read by the transaction found: each refusal in its turn; else the values go to the front of the buffer
-abbrev pub read_by : Ledger → List ℕ → ℕ → ℕ → ℕ → Option Transaction → Outcome
-read_by l b h k n None = refused l b (NoTransaction h)
-read_by l b h k n (Some t) =
-    if not (in_table l k n) then refused l b (KeyOutside k)
-    else if nat_lt (length b) n then refused l b (ShortBuffer (length b))
-    else if joins t k n && nat_le 32 (length t.reads) then refused l b (ReadListFull h)
-    else record {
-      answer = ReadDone;
-      buffer = map (seen l t) (keys_from k n) ++ drop n b;
-      ledger = with_active l (changed l.active h (λ u. joined u k n));
-    }
-
--- read: by the active transaction that has the handle
-abbrev pub read_call : Ledger → List ℕ → ℕ → ℕ → ℕ → Outcome
-read_call l b h k n = read_by l b h k n (found l.active h)
+-- the values go to the front of the buffer
+abbrev pub read_effect : Ledger → List ℕ → ℕ → ℕ → ℕ → Transaction → Effect
+read_effect l b h k n t = record {
+  done = Done.Read n;
+  buffer = map (seen l t) (range_with_len k n) ++ drop n b;
+  ledger = with_call l h (Call.Read h k n);
+}
 
 -- Write
 
--- whether there is one
-abbrev pub is_some : {X : Type 0} → Option X → Bool
-is_some None = false
-is_some (Some x) = true
-
--- the transaction with the write in its list
-abbrev pub wrote : Transaction → ℕ → ℕ → Transaction
-wrote t k x = record t { writes = written t.writes k x }
-
--- a key that is new to a write list of 32
-abbrev pub no_room : Transaction → ℕ → Bool
-no_room t k = not (is_some (own_write k t.writes)) && nat_le 32 (length t.writes)
-
--- a write by the transaction found: each refusal in its turn; else it is noted, and the buffer is left
-abbrev pub write_by : Ledger → List ℕ → ℕ → ℕ → ℕ → Option Transaction → Outcome
-write_by l b h k x None = refused l b (NoTransaction h)
-write_by l b h k x (Some t) =
-    if is_reader t.kind then refused l b (ReaderWrites h)
-    else if not (in_table l k 1) then refused l b (KeyOutside k)
-    else if no_room t k then refused l b (WriteListFull h)
-    else record { answer = Wrote; buffer = b; ledger = with_active l (changed l.active h (λ u. wrote u k x)) }
-
--- write: by the active transaction that has the handle
-abbrev pub write_call : Ledger → List ℕ → ℕ → ℕ → ℕ → Outcome
-write_call l b h k x = write_by l b h k x (found l.active h)
+-- the write joins the write list
+abbrev pub write_effect : Ledger → List ℕ → ℕ → ℕ → ℕ → Effect
+write_effect l b h k x = record { done = Done.Wrote; buffer = b; ledger = with_call l h (Call.Write h k x) }
 
 -- Reclaim
 
@@ -140,16 +189,21 @@ reclaimed l = record l {
   trimmed = max l.trimmed (trim_tick l);
 }
 
--- reclaim: how many versions are newly marked removed
-abbrev pub reclaim_call : Ledger → List ℕ → Outcome
-reclaim_call l b = record { answer = Reclaimed (dead_count l); buffer = b; ledger = reclaimed l }
+-- how many versions are newly marked removed
+abbrev pub reclaim_effect : Ledger → List ℕ → Effect
+reclaim_effect l b = record { done = Done.Reclaimed (dead_count l); buffer = b; ledger = reclaimed l }
 
 -- Commit
+
+-- a key read that clashes, and the stamp of its granule
+pub record Clash : Type 0 where
+  pub key : ℕ
+  pub stamp : ℕ
 
 -- the keys of a read list: its ranges in the order made, the keys of each rising
 abbrev pub read_keys : List Range → List ℕ
 read_keys [] = []
-read_keys (r ∷ rs) = keys_from r.first r.count ++ read_keys rs
+read_keys (r ∷ rs) = range_with_len r.first r.count ++ read_keys rs
 
 -- the greatest stamp of a version written into the granule of a key; 0 where there is none
 abbrev pub granule_stamp : (ℕ → ℕ) → ℕ → List Version → ℕ
@@ -157,74 +211,89 @@ granule_stamp g k [] = 0
 granule_stamp g k (v ∷ vs) = if g v.key == g k then max v.stamp (granule_stamp g k vs) else granule_stamp g k vs
 
 -- the first of the keys whose granule has a stamp above the start tick s, with that stamp
-abbrev pub first_clash : (ℕ → ℕ) → List Version → ℕ → List ℕ → Option (ℕ × ℕ)
-first_clash g vs s [] = None
-first_clash g vs s (k ∷ ks) = if nat_lt s (granule_stamp g k vs) then Some (k, granule_stamp g k vs) else first_clash g vs s ks
+abbrev pub clash_among : (ℕ → ℕ) → List Version → ℕ → List ℕ → Option Clash
+clash_among g vs s ks =
+    option_map (λ k. record { key = k; stamp = granule_stamp g k vs }) (find (λ k. nat_lt s (granule_stamp g k vs)) ks)
 
 -- the first clash of an updater, told from all versions ever committed
-abbrev pub clash : Ledger → Transaction → Option (ℕ × ℕ)
-clash l t = first_clash l.limits.granule l.versions t.start (read_keys t.reads)
+abbrev pub clash : Ledger → Transaction → Option Clash
+clash l t = clash_among l.limits.granule l.versions t.start (read_keys t.reads)
 
--- the cells that hold no version
-abbrev pub free : Ledger → ℕ
-free l = l.limits.cells - present_count l
+-- the cells that are lacking for so many writes
+abbrev pub shortage_in : Ledger → ℕ → Option Shortage
+shortage_in l n = shortage l.limits.cells (present_count l) n
 
--- the cells do not hold so many versions more, the dead ones removed
-abbrev pub too_full : Ledger → ℕ → Bool
-too_full l n = nat_lt l.limits.cells ((present_count l - dead_count l) + n)
+-- where cells are lacking a reclaim goes first
+abbrev pub with_room : Ledger → ℕ → Ledger
+with_room l n = if is_some (shortage_in l n) then reclaimed l else l
 
 -- the versions that a write list becomes, in its order
 abbrev pub stamped : ℕ → List Entry → List Version
 stamped s ws = map (λ w. record { key = w.key; stamp = s; value = w.value; present = true }) ws
 
--- the transaction has ended, and nothing else changed
-abbrev pub ended : Ledger → List ℕ → ℕ → Verdict → Outcome
-ended l b h v = record { answer = Ended v; buffer = b; ledger = with_active l (without l.active h) }
-
 -- the next tick is drawn, and an updater's writes become versions of it
 abbrev pub installed : Ledger → Transaction → Ledger
-installed l t = record l { clock = l.clock + 1; active = without l.active t.start; versions = stamped (l.clock + 1) t.writes ++ l.versions }
+installed l t = record l { clock = l.clock + 1; active = without l.active (handle_of t); versions = stamped (l.clock + 1) t.writes ++ l.versions }
+
+-- the transaction has ended, and nothing else changed
+abbrev pub ended : Ledger → ℕ → Ledger
+ended l h = with_active l (without l.active h)
+
+abbrev pub full_or_committed : Ledger → Option Shortage → Verdict
+full_or_committed l (Some s) = Full s.writes s.free
+full_or_committed l None = Committed (l.clock + 1)
 
 -- restart, spent, full, committed: the first that applies
-abbrev pub judged_by : Ledger → List ℕ → Transaction → Option (ℕ × ℕ) → Outcome
-judged_by l b t (Some x) = ended l b t.start (Restart x.0 x.1)
-judged_by l b t None =
-    if out_of_ticks l then ended l b t.start Spent
-    else if too_full l (length t.writes) then ended l b t.start (Full (length t.writes) (free l))
-    else record { answer = Ended (Committed (l.clock + 1)); buffer = b; ledger = installed l t }
+abbrev pub verdict_after : Ledger → Transaction → Option Clash → Verdict
+verdict_after l t (Some c) = Restart c.key c.stamp
+verdict_after l t None =
+    if out_of_ticks l.clock l.limits.last then Spent
+    else full_or_committed l (shortage_in l (length t.writes))
+
+abbrev pub verdict : Ledger → Transaction → Verdict
+verdict l t = verdict_after l t (clash l t)
+
+-- the ledger that a verdict leaves: the updater has ended, its writes installed if it is committed
+abbrev pub left_by : Ledger → Transaction → Verdict → Ledger
+left_by l t (Committed c) = installed l t
+left_by l t _ = ended l (handle_of t)
+
+-- an updater's commit has to be judged; any other call that is admitted is answered at once
+abbrev pub is_judged : Kind → Call → Bool
+is_judged Updater (Call.Commit h) = true
+is_judged kind c = false
 
 -- the verdict on an updater, and what it leaves
-abbrev pub judged : Ledger → List ℕ → Transaction → Outcome
-judged l b t = judged_by l b t (clash l t)
+abbrev pub judged : Ledger → List ℕ → Transaction → Effect
+judged l b t =
+    let v = verdict l t in
+    record { done = Done.Ended v; buffer = b; ledger = left_by l t v }
 
--- where cells are short a reclaim goes first, with the updater still active, whatever the verdict
-abbrev pub commit_by : Ledger → List ℕ → ℕ → Option Transaction → Outcome
-commit_by l b h None = refused l b (NoTransaction h)
-commit_by l b h (Some t) =
-    if is_reader t.kind then ended l b h Closed
-    else if nat_lt (free l) (length t.writes) then judged (reclaimed l) b t
-    else judged l b t
-
--- commit: of the active transaction that has the handle
-abbrev pub commit_call : Ledger → List ℕ → ℕ → Outcome
-commit_call l b h = commit_by l b h (found l.active h)
+-- a reader is closed; an updater is judged, still active, once there is room
+abbrev pub commit_effect : Ledger → List ℕ → ℕ → Transaction → Effect
+commit_effect l b h t =
+    if is_judged t.kind (Call.Commit h) then judged (with_room l (length t.writes)) b t
+    else record { done = Done.Ended Closed; buffer = b; ledger = ended l h }
 
 -- Abort
 
--- an abort of the transaction found: it ends, and nothing else changes
-abbrev pub abort_by : Ledger → List ℕ → ℕ → Option Transaction → Outcome
-abort_by l b h None = refused l b (NoTransaction h)
-abort_by l b h (Some t) = record { answer = Aborted; buffer = b; ledger = with_active l (without l.active h) }
+abbrev pub abort_effect : Ledger → List ℕ → ℕ → Effect
+abort_effect l b h = record { done = Done.Aborted; buffer = b; ledger = ended l h }
 
--- abort: of the active transaction that has the handle
-abbrev pub abort_call : Ledger → List ℕ → ℕ → Outcome
-abort_call l b h = abort_by l b h (found l.active h)
+-- Any call
 
--- any call
+-- the check of a call under the handle h
+abbrev pub by_handle : Ledger → List ℕ → ℕ → Call → Result Transaction Fault
+by_handle l b h c = maker l.limits.keys (length b) h c (found l.active h)
+
+-- each call: its check, and what it does once that is passed
+abbrev pub effect_of : Ledger → Call → List ℕ → Result Effect Fault
+effect_of l (Call.Begin kind) b = if_passed (begin_check (length l.active) l.clock l.limits.last) (λ _. begin_effect l b kind)
+effect_of l (Call.Read h k n) b = if_passed (by_handle l b h (Call.Read h k n)) (read_effect l b h k n)
+effect_of l (Call.Write h k x) b = if_passed (by_handle l b h (Call.Write h k x)) (λ _. write_effect l b h k x)
+effect_of l (Call.Commit h) b = if_passed (by_handle l b h (Call.Commit h)) (commit_effect l b h)
+effect_of l (Call.Abort h) b = if_passed (by_handle l b h (Call.Abort h)) (λ _. abort_effect l b h)
+effect_of l Call.Reclaim b = Ok (reclaim_effect l b)
+
 abbrev pub step : Ledger → Call → List ℕ → Outcome
-step l (Begin kind) b = begin_call l b kind
-step l (Read h k n) b = read_call l b h k n
-step l (Write h k x) b = write_call l b h k x
-step l (Commit h) b = commit_call l b h
-step l (Abort h) b = abort_call l b h
-step l Reclaim b = reclaim_call l b
+step l c b = outcome l b (effect_of l c b)

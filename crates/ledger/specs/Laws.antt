@@ -1,30 +1,31 @@
 -- The laws: what the calls mean for those who make them.
-use Rattle.std.specs.Prelude.{◌≡◌, ℕ, zero, suc, ◌+◌, ◌-◌, ◌<◌, ◌≤◌, Bool, true, false, if◌then◌else◌, not, ◌&&◌, List, [], ◌∷◌, ◌++◌, map, length, drop, Some, None, filter, Option, ◌==◌, ◌≢◌, nat_lt}
+use Rattle.std.specs.Prelude.{◌≡◌, ℕ, zero, suc, ◌+◌, ◌-◌, ◌<◌, ◌≤◌, true, false, if◌then◌else◌, ◌&&◌, ◌||◌, List, [], ◌∷◌, ◌++◌, map, length, drop, Some, None, Option, Ok, Err, Result, ◌==◌, ◌≢◌, nat_lt}
+use Rattle.std.specs.List.{range_with_len}
+use Rattle.std.specs.Option.{is_some}
+use Rattle.std.specs.Result.{is_ok}
 use Rattle.ledger.specs.declared.Call.{Call}
-use Rattle.ledger.specs.declared.Call.TheVariants.{Begin, Read, Write, Commit, Abort, Reclaim}
 use Rattle.ledger.specs.declared.Fault.{Fault}
 use Rattle.ledger.specs.declared.Fault.TheVariants.{NoTransaction, ClockSpent}
 use Rattle.ledger.specs.declared.Verdict.TheVariants.{Restart}
-use Rattle.ledger.specs.declared.Answer.{Answer}
-use Rattle.ledger.specs.declared.Answer.TheVariants.{Read as ReadDone, Ended, Reclaimed, Refused}
-use Rattle.ledger.specs.Ledger.{Limits, Transaction, Version, Ledger, found, is_reader, dead, newest_value}
-use Rattle.ledger.specs.Calls.{step, keys_from, reclaimed, clash, out_of_ticks, is_some}
+use Rattle.ledger.specs.declared.Done.{Done}
+use Rattle.ledger.specs.Ledger.{Limits, Transaction, Version, Ledger, Shortage, found, is_reader, dead, live_count, shortage, newest_value}
+use Rattle.ledger.specs.Calls.{step, reclaimed, clash, out_of_ticks}
 use Rattle.ledger.specs.Reach.{Reached}
 use Rattle.ledger.specs.Orderly.{Orderly}
-use Rattle.ledger.specs.History.{Made, after, Told, accepted, acts, saw, began_at, committed_at, begins, ends, updater_in, placed, stands_at, others, asked}
+use Rattle.ledger.specs.History.{Made, Deed, begins, commits, deed, after, Told, operations, saw, is_begin_of, is_end_of, updater_in, place_in, stands_at, others, asked}
 use Rattle.ledger.specs.Serial.{run_reads, table}
-use Rattle.ledger.specs.Clashes.{keys_read, first_struck, restart_of, full_of}
+use Rattle.ledger.specs.Clashes.{keys_read, first_overwritten, restart_of, full_of}
 
 -- Over a history
 
 -- Serial: every transaction in the order reads what it would read running alone in its place, and newest is what they leave.
 pub record Serial (n : Limits) (ms : List Made) (newest : ℕ → ℕ) : Type 0 where
-  -- whom a call places at a tick stands there, and no one stands elsewhere
+  -- who is given a place at a tick stands there, and no one stands elsewhere
   pub stands : (newer older : List Made) (m : Made) (t h : ℕ)
-      → ms ≡ newer ++ (m ∷ older) → placed m.call m.answer ≡ Some (t, h) → stands_at ms t ≡ Some h
+      → ms ≡ newer ++ (m ∷ older) → place_in (deed m) ≡ Some (record { tick = t; handle = h }) → stands_at ms t ≡ Some h
   pub within : (t h : ℕ) → stands_at ms t ≡ Some h → (0 < t) × (t ≤ (after n ms).clock)
   -- run on the table as the ticks before leave it, its reads give what they left in the callers' buffers
-  pub reads : (t h : ℕ) → stands_at ms (suc t) ≡ Some h → run_reads (acts h ms) (table ms t) ≡ saw h ms
+  pub reads : (t h : ℕ) → stands_at ms (suc t) ≡ Some h → run_reads (operations h ms) (table ms t) ≡ saw h ms
   -- after the last tick the table has each key's newest value
   pub newest_is : (k : ℕ) → k < n.keys → newest k ≡ table ms (after n ms).clock k
 
@@ -32,7 +33,7 @@ pub record Serial (n : Limits) (ms : List Made) (newest : ℕ → ℕ) : Type 0 
 abbrev pub KeepsTime : List Made → Type 0
 KeepsTime ms = (newer between older : List Made) (e b : Made) (g h s t : ℕ)
     → ms ≡ newer ++ (b ∷ (between ++ (e ∷ older)))
-    → ends g e ≡ true → begins h b ≡ true
+    → is_end_of g (deed e) ≡ true → is_begin_of h (deed b) ≡ true
     → stands_at ms s ≡ Some g → stands_at ms t ≡ Some h → s < t
 
 -- Reclaims: whatever else was reclaimed, every other call is answered alike.
@@ -43,27 +44,21 @@ Unmoved n ms = (ns : List Made) → Told n ns → asked (others ns) ≡ asked (o
 abbrev pub Restarts : Limits → List Made → Type 0
 Restarts n ms = (newer older : List Made) (m : Made) (h : ℕ)
     → ms ≡ newer ++ (m ∷ older)
-    → m.call ≡ Commit h → accepted m.answer ≡ true → updater_in h older ≡ true
-    → restart_of m.answer ≡ first_struck n.granule older h (keys_read (acts h older))
+    → m.call ≡ Call.Commit h → is_ok m.answer ≡ true → updater_in h older ≡ true
+    → restart_of m.answer ≡ first_overwritten n.granule older h (keys_read (operations h older))
 
--- the versions that are not dead, in a cell or not
-abbrev pub live_count : Ledger → ℕ
-live_count l = length (filter (λ v. not (dead l v)) l.versions)
-
--- nothing goes before full, and the cells do not hold what is live and what the updater writes
-abbrev pub crowded : Ledger → Transaction → Bool
-crowded l t = not (is_some (clash l t)) && (not (out_of_ticks l) && nat_lt l.limits.cells (live_count l + length t.writes))
-
--- the numbers of the verdict full where the live versions and the writes exceed the cells, and else none
-abbrev pub full_if_crowded : Ledger → Transaction → Option (ℕ × ℕ)
-full_if_crowded l t = if crowded l t then Some (length t.writes, l.limits.cells - live_count l) else None
+-- the shortage where the versions that are not dead take cells, unless a restart or spent goes before full
+abbrev pub live_shortage : Ledger → Transaction → Option Shortage
+live_shortage l t =
+    if is_some (clash l t) || out_of_ticks l.clock l.limits.last then None
+    else shortage l.limits.cells (live_count l) (length t.writes)
 
 -- Full: an updater's commit is full only if it must be.
 abbrev pub Fulls : Limits → List Made → Type 0
 Fulls n ms = (newer older : List Made) (m : Made) (h : ℕ) (t : Transaction)
     → ms ≡ newer ++ (m ∷ older)
-    → m.call ≡ Commit h → found (after n older).active h ≡ Some t → is_reader t.kind ≡ false
-    → full_of m.answer ≡ full_if_crowded (after n older) t
+    → m.call ≡ Call.Commit h → found (after n older).active h ≡ Some t → is_reader t.kind ≡ false
+    → full_of m.answer ≡ live_shortage (after n older) t
 
 -- what holds after each call of any list of calls on one new engine
 pub record Lawful (n : Limits) (ms : List Made) (newest : ℕ → ℕ) : Type 0 where
@@ -101,15 +96,16 @@ Law = (n : Limits) (ms : List Made) → Told n ms → Lawful n ms (λ k. newest_
 
 -- Ticks
 
--- the ticks that an answer gives
-abbrev pub tick_in : Option ℕ → List ℕ
-tick_in None = []
-tick_in (Some t) = t ∷ []
+-- the tick that a deed drew
+abbrev pub ticks_in : Deed → List ℕ
+ticks_in (begins kind h) = h ∷ []
+ticks_in (commits h t) = t ∷ []
+ticks_in _ = []
 
 -- every tick drawn, the last first
 abbrev pub drawn : List Made → List ℕ
 drawn [] = []
-drawn (m ∷ ms) = (tick_in (began_at m.answer) ++ tick_in (committed_at m.answer)) ++ drawn ms
+drawn (m ∷ ms) = ticks_in (deed m) ++ drawn ms
 
 -- n, n - 1, .. 1
 abbrev pub down_from : ℕ → List ℕ
@@ -124,13 +120,13 @@ TickLaw = (n : Limits) (ms : List Made) → Told n ms → drawn ms ≡ down_from
 
 -- a read under a reader's handle, the newest call of the history
 abbrev pub read_now : ℕ → ℕ → ℕ → List ℕ → List ℕ → Made
-read_now h k c b b' = record { call = Read h k c; given = b; answer = ReadDone; left = b' }
+read_now h k c b b' = record { call = Call.Read h k c; given = b; answer = Ok (Done.Read c); left = b' }
 
 -- a reader is shown the serial table as it was when the reader began, whatever was committed since
 abbrev pub MomentLaw : Type 0
 MomentLaw = (n : Limits) (ms : List Made) (h k c : ℕ) (b b' : List ℕ)
     → Told n (read_now h k c b b' ∷ ms) → updater_in h ms ≡ false
-    → b' ≡ map (table ms (h - 1)) (keys_from k c) ++ drop c b
+    → b' ≡ map (table ms (h - 1)) (range_with_len k c) ++ drop c b
 
 -- Over the ledgers that calls lead to
 
@@ -146,26 +142,31 @@ DeathLaw = (l : Ledger) → Reached l → (c : Call) (b : List ℕ) (v : Version
 -- a refused call leaves ledger and buffer as they were
 abbrev pub RefusalLaw : Type 0
 RefusalLaw = (l : Ledger) (c : Call) (b : List ℕ) (f : Fault)
-    → (step l c b).answer ≡ Refused f → ((step l c b).ledger ≡ l) × ((step l c b).buffer ≡ b)
+    → (step l c b).answer ≡ Err f → ((step l c b).ledger ≡ l) × ((step l c b).buffer ≡ b)
 
 -- what a ledger without ticks answers, as that of an engine set up wrongly is
-abbrev pub idle_answer : Call → Answer
-idle_answer (Begin kind) = Refused (ClockSpent 0)
-idle_answer (Read h k n) = Refused (NoTransaction h)
-idle_answer (Write h k x) = Refused (NoTransaction h)
-idle_answer (Commit h) = Refused (NoTransaction h)
-idle_answer (Abort h) = Refused (NoTransaction h)
-idle_answer Reclaim = Reclaimed 0
+abbrev pub idle_answer : Call → Result Done Fault
+idle_answer (Call.Begin kind) = Err (ClockSpent 0)
+idle_answer (Call.Read h k n) = Err (NoTransaction h)
+idle_answer (Call.Write h k x) = Err (NoTransaction h)
+idle_answer (Call.Commit h) = Err (NoTransaction h)
+idle_answer (Call.Abort h) = Err (NoTransaction h)
+idle_answer Call.Reclaim = Ok (Done.Reclaimed 0)
 
 -- without a tick nothing ever begins
 abbrev pub IdleLaw : Type 0
 IdleLaw = (l : Ledger) → Reached l → l.limits.last ≡ 0 → (c : Call) (b : List ℕ)
     → ((step l c b).answer ≡ idle_answer c) × ((step l c b).buffer ≡ b) × ((step l c b).ledger.active ≡ []) × ((step l c b).ledger.versions ≡ [])
 
--- the stamp and the value of the newest version of a key stamped below a tick
-abbrev pub newest_below : ℕ → ℕ → List Version → Option (ℕ × ℕ)
+-- what a version tells of its key, in a cell or not
+pub record Revision : Type 0 where
+  pub stamp : ℕ
+  pub value : ℕ
+
+-- the newest version of a key stamped below a tick
+abbrev pub newest_below : ℕ → ℕ → List Version → Option Revision
 newest_below k t [] = None
-newest_below k t (v ∷ vs) = if v.key == k && nat_lt v.stamp t then Some (v.stamp, v.value) else newest_below k t vs
+newest_below k t (v ∷ vs) = if v.key == k && nat_lt v.stamp t then Some (record { stamp = v.stamp; value = v.value }) else newest_below k t vs
 
 -- once every tick below t is drawn, the newest version below t never changes
 abbrev pub PastLaw : Type 0
@@ -175,14 +176,14 @@ PastLaw = (l : Ledger) → Reached l → (c : Call) (b : List ℕ) (k t : ℕ)
 -- no verdict depends on the reclaims made, full among them
 abbrev pub VerdictLaw : Type 0
 VerdictLaw = (l : Ledger) → Reached l → (h : ℕ) (b : List ℕ)
-    → (step (reclaimed l) (Commit h) b).answer ≡ (step l (Commit h) b).answer
+    → (step (reclaimed l) (Call.Commit h) b).answer ≡ (step l (Call.Commit h) b).answer
 
 -- a restart names a stamp above its transaction's start, of a tick drawn
 abbrev pub StampLaw : Type 0
 StampLaw = (l : Ledger) → Reached l → (h k s : ℕ) (b : List ℕ)
-    → (step l (Commit h) b).answer ≡ Ended (Restart k s) → (h < s) × (s ≤ l.clock)
+    → (step l (Call.Commit h) b).answer ≡ Ok (Done.Ended (Restart k s)) → (h < s) × (s ≤ l.clock)
 
 -- an updater that read nothing is never restarted
 abbrev pub BlindLaw : Type 0
 BlindLaw = (l : Ledger) → Reached l → (h k s : ℕ) (b : List ℕ) (t : Transaction)
-    → found l.active h ≡ Some t → t.reads ≡ [] → (step l (Commit h) b).answer ≢ Ended (Restart k s)
+    → found l.active h ≡ Some t → t.reads ≡ [] → (step l (Call.Commit h) b).answer ≢ Ok (Done.Ended (Restart k s))

@@ -1,5 +1,7 @@
 -- The ledger: all that answers depend on. It keeps every version that was ever committed.
-use Rattle.std.specs.Prelude.{ℕ, ◌+◌, min, Bool, true, false, if◌then◌else◌, not, ◌&&◌, ◌||◌, List, [], ◌∷◌, length, Some, None, filter, Option, ◌==◌, nat_lt}
+use Rattle.std.specs.Prelude.{ℕ, ◌+◌, ◌-◌, min, Bool, true, false, if◌then◌else◌, not, ◌&&◌, List, [], ◌∷◌, length, Some, None, filter, find, Option, ◌==◌, nat_lt}
+use Rattle.std.specs.List.{list_any}
+use Rattle.std.specs.Option.{option_map}
 use Rattle.ledger.specs.declared.Kind.{Kind}
 use Rattle.ledger.specs.declared.Range.{Range}
 use Rattle.ledger.specs.declared.Write.{Write}
@@ -12,8 +14,9 @@ pub record Limits : Type 0 where
   pub last : ℕ
   pub granule : ℕ → ℕ
 
--- an active transaction; its start tick is its handle
+-- an active transaction
 pub record Transaction : Type 0 where
+  -- the tick at which it began
   pub start : ℕ
   pub kind : Kind
   -- in the order made
@@ -48,10 +51,17 @@ no_limits = record { keys = 0; cells = 0; last = 0; granule = λ k. k }
 
 -- Active transactions
 
+-- the handle that names it: its start tick
+abbrev pub handle_of : Transaction → ℕ
+handle_of t = t.start
+
+-- the moment that a reader reads as of: its start tick
+abbrev pub moment_of : Transaction → ℕ
+moment_of t = t.start
+
 -- the active transaction with this handle
 abbrev pub found : List Transaction → ℕ → Option Transaction
-found [] h = None
-found (t ∷ ts) h = if t.start == h then Some t else found ts h
+found ts h = find (λ t. handle_of t == h) ts
 
 -- a reader, and no updater
 abbrev pub is_reader : Kind → Bool
@@ -63,36 +73,39 @@ abbrev pub least_start : (Kind → Bool) → ℕ → List Transaction → ℕ
 least_start p none [] = none
 least_start p none (t ∷ ts) = if p t.kind then min t.start (least_start p none ts) else least_start p none ts
 
--- no active reader looks below it
-abbrev pub horizon : Ledger → ℕ
-horizon l = least_start is_reader (l.clock + 1) l.active
-
 -- no active updater began before it
 abbrev pub trim_tick : Ledger → ℕ
 trim_tick l = least_start (λ k. not (is_reader k)) (l.clock + 1) l.active
 
 -- Versions
 
--- whether one passes the test
-abbrev pub any : {X : Type 0} → (X → Bool) → List X → Bool
-any p [] = false
-any p (x ∷ xs) = p x || any p xs
+-- what the active readers, and those that are to come, still look at: all moments from a tick on
+abbrev pub Outlook : Type 0
+Outlook = ℕ
 
--- one of the versions is of the same key, newer, and stamped below the horizon h
-abbrev pub superseded : List Version → ℕ → Version → Bool
-superseded vs h v = any (λ w. (w.key == v.key) && (nat_lt v.stamp w.stamp && nat_lt w.stamp h)) vs
+-- no active reader looks below it
+abbrev pub outlook : Ledger → Outlook
+outlook l = least_start is_reader (l.clock + 1) l.active
+
+-- no moment of the outlook chooses the version: another is of its key, newer, and stamped below all of them
+abbrev pub unseen : Outlook → List Version → Version → Bool
+unseen o vs v = list_any (λ w. w.key == v.key && (nat_lt v.stamp w.stamp && nat_lt w.stamp o)) vs
 
 -- no active transaction, and none that is to come, reads it
 abbrev pub dead : Ledger → Version → Bool
-dead l v = superseded l.versions (horizon l) v
+dead l v = unseen (outlook l) l.versions v
 
 -- how many versions are present
 abbrev pub present_count : Ledger → ℕ
 present_count l = length (filter (λ v. v.present) l.versions)
 
--- the versions that a reclaim removes
+-- how many versions a reclaim removes
 abbrev pub dead_count : Ledger → ℕ
 dead_count l = length (filter (λ v. v.present && dead l v) l.versions)
+
+-- how many versions are not dead, in a cell or not
+abbrev pub live_count : Ledger → ℕ
+live_count l = length (filter (λ v. not (dead l v)) l.versions)
 
 -- the newest value of a key stamped below a tick; 0 where there is none
 abbrev pub value_below : ℕ → ℕ → List Version → ℕ
@@ -108,10 +121,20 @@ newest_value k (v ∷ vs) = if v.key == k then v.value else newest_value k vs
 
 -- the value that a write list has for a key
 abbrev pub own_write : ℕ → List Write → Option ℕ
-own_write k [] = None
-own_write k (w ∷ ws) = if w.key == k then Some w.value else own_write k ws
+own_write k ws = option_map (λ w. w.value) (find (λ w. w.key == k) ws)
 
 -- a key already there gets the new value in its old place
 abbrev pub written : List Write → ℕ → ℕ → List Write
 written [] k x = record { key = k; value = x } ∷ []
 written (w ∷ ws) k x = if w.key == k then record { key = k; value = x } ∷ ws else (w ∷ written ws k x)
+
+-- Cells
+
+-- the cells that are lacking for writes: how many are to be written, and how many cells are free
+pub record Shortage : Type 0 where
+  pub writes : ℕ
+  pub free : ℕ
+
+-- the shortage, if there is one, where so many of the cells are taken
+abbrev pub shortage : ℕ → ℕ → ℕ → Option Shortage
+shortage cells taken writes = if nat_lt (cells - taken) writes then Some (record { writes = writes; free = cells - taken }) else None

@@ -1,6 +1,7 @@
 -- What holds of every ledger that calls lead to.
 use Rattle.std.specs.Prelude.{◌≡◌, ℕ, ◌+◌, ◌<◌, ◌≤◌, true, false, List, [], ◌∷◌, length, ◌≢◌}
 use Rattle.std.specs.List.{AllByRecursion}
+use Rattle.ledger.specs.declared.TheConstants.{MAX_ACTIVE, MAX_READS, MAX_WRITES}
 use Rattle.ledger.specs.declared.Write.{Write}
 use Rattle.ledger.specs.Ledger.{Limits, Transaction, Version, Ledger, is_reader, dead, present_count}
 
@@ -18,18 +19,18 @@ Distinct (w ∷ ws) = AllByRecursion (λ u. u.key ≢ w.key) ws × Distinct ws
 pub record Fine (n : Limits) (clock : ℕ) (t : Transaction) : Type 0 where
   pub late : 0 < t.start
   pub by : t.start ≤ clock
-  pub few_reads : length t.reads ≤ 32
-  pub few_writes : length t.writes ≤ 32
+  pub few_reads : length t.reads ≤ MAX_READS
+  pub few_writes : length t.writes ≤ MAX_WRITES
   pub ranges : AllByRecursion (λ r. (0 < r.count) × (r.first + r.count ≤ n.keys)) t.reads
   pub keys : AllByRecursion (λ w. w.key < n.keys) t.writes
   pub distinct : Distinct t.writes
   pub reads_only : is_reader t.kind ≡ true → (t.reads ≡ []) × (t.writes ≡ [])
 
--- the active transactions: each in order, no two with one start, 16 at most
+-- the active transactions: each in order, no two with one start, no more than may be
 pub record Sound (l : Ledger) : Type 0 where
   pub fine : AllByRecursion (Fine l.limits l.clock) l.active
   pub apart : Apart l.active
-  pub few : length l.active ≤ 16
+  pub few : length l.active ≤ MAX_ACTIVE
 
 -- newest first
 abbrev pub Falling : List Version → Type 0
@@ -53,7 +54,7 @@ pub record Dated (l : Ledger) : Type 0 where
   pub unlike : AllByRecursion (λ t. AllByRecursion (λ v. v.stamp ≢ t.start) l.versions) l.active
 
 -- what reclaims leave: removed versions are dead, present ones have a cell each, and no stamp is trimmed that an active updater needs
-pub record Tidy (l : Ledger) : Type 0 where
+pub record SafelyReclaimed (l : Ledger) : Type 0 where
   pub removed : AllByRecursion (λ v. v.present ≡ false → dead l v ≡ true) l.versions
   pub cells : present_count l ≤ l.limits.cells
   -- no stamp that an active updater could clash with is trimmed away
@@ -64,4 +65,4 @@ pub record Tidy (l : Ledger) : Type 0 where
 pub record Orderly (l : Ledger) : Type 0 where
   pub sound : Sound l
   pub dated : Dated l
-  pub tidy : Tidy l
+  pub safe : SafelyReclaimed l

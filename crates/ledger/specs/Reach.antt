@@ -6,5 +6,5 @@ use Rattle.ledger.specs.Calls.{step}
 
 -- a new ledger, and each that a call leads to
 pub data Reached : Ledger → Type 0 where
-  made : (n : Limits) → Reached (new_ledger n)
+  new : (n : Limits) → Reached (new_ledger n)
   next : {l : Ledger} (c : Call) (b : List ℕ) → Reached l → Reached (step l c b).ledger

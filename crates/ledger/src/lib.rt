@@ -1,13 +1,19 @@
-//! The calls on the engine, their answers and their faults, as values.
+//! The calls on the engine, what they do and why they are refused, as values.
 //! What each call answers is defined in `specs/`; the laws of it are the contracts in `laws`.
 #![tactic(auto)]
 
-ghost use Rattle.std.specs.Prelude.{◌≡◌, Some};
-ghost use Rattle.ledger.specs.Faults.{reported, report_text};
-
-use std::fmt;
+use refusals::{Refusal, Report};
 
 pub mod laws;
+
+/// The most transactions that are active at once.
+pub const MAX_ACTIVE: usize = 16;
+
+/// The most ranges that an updater reads.
+pub const MAX_READS: usize = 32;
+
+/// The most keys that an updater writes.
+pub const MAX_WRITES: usize = 32;
 
 #[derive(Clone, Copy)]
 pub enum Kind {
@@ -15,18 +21,26 @@ pub enum Kind {
     Updater,
 }
 
+#[derive(Clone, Copy)]
+pub enum Call {
+    Begin(Kind),
+    Read { handle: u32, first: u16, count: u16 },
+    Write { handle: u32, key: u16, value: u64 },
+    Commit { handle: u32 },
+    Abort { handle: u32 },
+    Reclaim,
+}
+
+/// What an accepted call did.
 #[derive(Clone, Copy, Debug, PartialEq, Eq)]
-pub enum Fault {
-    LastTick(u32),
-    KeyOutside(u16),
-    ShortBuffer(usize),
-    NotFresh,
-    NoTransaction(u32),
-    ReaderWrites(u32),
-    TooManyActive,
-    ClockSpent(u32),
-    ReadListFull(u32),
-    WriteListFull(u32),
+pub enum Done {
+    Began { handle: u32 },
+    /// So many values are at the front of the caller's buffer.
+    Read { count: u16 },
+    Wrote,
+    Ended(Verdict),
+    Aborted,
+    Reclaimed { count: u16 },
 }
 
 /// What a commit answers.
@@ -34,35 +48,24 @@ pub enum Fault {
 pub enum Verdict {
     Closed,
     /// The first key read that clashes, and the stamp of its granule.
-    Restart(u16, u32),
+    Restart { key: u16, stamp: u32 },
     Spent,
     /// The number of writes, and the free cells.
-    Full(u16, u16),
-    Committed(u32),
+    Full { writes: u16, free: u16 },
+    Committed { tick: u32 },
 }
 
-#[derive(Clone, Copy)]
-pub enum Call {
-    Begin(Kind),
-    /// Handle, first key and count.
-    Read(u32, u16, u16),
-    /// Handle, key and value.
-    Write(u32, u16, u64),
-    Commit(u32),
-    Abort(u32),
-    Reclaim,
-}
-
-// An enum of its own and no `Result`: a refusal is an answer that a history is told by, as any other.
+/// Why a call is refused.
 #[derive(Clone, Copy, Debug, PartialEq, Eq)]
-pub enum Answer {
-    Began(u32),
-    Read,
-    Wrote,
-    Ended(Verdict),
-    Aborted,
-    Reclaimed(u16),
-    Refused(Fault),
+pub enum Fault {
+    KeyOutside { key: u16 },
+    ShortBuffer { length: usize },
+    NoTransaction { handle: u32 },
+    ReaderWrites { handle: u32 },
+    TooManyActive,
+    ClockSpent { last: u32 },
+    ReadListFull { handle: u32 },
+    WriteListFull { handle: u32 },
 }
 
 /// A run of keys.
@@ -79,53 +82,27 @@ pub struct Write {
     pub value: u64,
 }
 
-// Methods of its own: no code takes any fault, and a trait for them would need a crate below the ledger.
-impl Fault {
-    pub fn layer(self) -> u8
-        ensures { result ≡ (reported self).layer }
-    {
-        3
-    }
+impl Refusal for Fault {
+    ghost use Rattle.ledger.specs.Faults.{fault_report};
 
-    pub fn number(self) -> u8
-        ensures { result ≡ (reported self).number }
-    {
-        match self {
-            Fault::LastTick(_) => 2,
-            Fault::KeyOutside(_) => 5,
-            Fault::ShortBuffer(_) => 6,
-            Fault::NotFresh => 8,
-            Fault::NoTransaction(_) => 9,
-            Fault::ReaderWrites(_) => 10,
-            Fault::TooManyActive => 11,
-            Fault::ClockSpent(_) => 12,
-            Fault::ReadListFull(_) => 13,
-            Fault::WriteListFull(_) => 14,
-        }
-    }
+    ghost reported = { fault_report };
 
-    pub fn place(self) -> u64
-        ensures { result ≡ (reported self).place }
-    {
-        match self {
-            Fault::KeyOutside(key) => u64::from(key),
+    fn report(&self) -> Report {
+        let (number, place) = match *self {
+            Fault::KeyOutside { key } => (5, u64::from(key)),
             // A length fits 64 bits.
-            Fault::ShortBuffer(length) => length as u64,
-            Fault::NotFresh => 0,
-            Fault::TooManyActive => 16,
-            Fault::LastTick(tick) | Fault::ClockSpent(tick) => u64::from(tick),
-            Fault::NoTransaction(handle)
-            | Fault::ReaderWrites(handle)
-            | Fault::ReadListFull(handle)
-            | Fault::WriteListFull(handle) => u64::from(handle),
+            Fault::ShortBuffer { length } => (6, length as u64),
+            Fault::NoTransaction { handle } => (9, u64::from(handle)),
+            Fault::ReaderWrites { handle } => (10, u64::from(handle)),
+            Fault::TooManyActive => (11, MAX_ACTIVE as u64),
+            Fault::ClockSpent { last } => (12, u64::from(last)),
+            Fault::ReadListFull { handle } => (13, u64::from(handle)),
+            Fault::WriteListFull { handle } => (14, u64::from(handle)),
+        };
+        Report {
+            layer: 3,
+            number,
+            place,
         }
-    }
-}
-
-impl fmt::Display for Fault {
-    ghost output = { λ e. Some (report_text (reported e)) };
-
-    fn fmt<W: fmt::Write>(&self, f: &mut fmt::Formatter<W>) -> fmt::Result {
-        write!(f, "{} {} {}", self.layer(), self.number(), self.place())
     }
 }

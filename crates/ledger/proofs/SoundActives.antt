@@ -3,14 +3,18 @@ use Rattle.std.proofs.Common.{◌≡◌, ℕ, suc, ◌+◌, ◌<◌, ◌≤◌, 
 use Rattle.std.specs.List.{AllByRecursion}
 use Rattle.std.proofs.ByRecursion.{All-weaker, all_kept_by, All-map, All-push}
 use Rattle.std.proofs.lemmas.List.{length-map, length_push}
+use Rattle.std.specs.List.{find, list_any}
+use Rattle.std.specs.Option.{is_some, option_map}
 use Rattle.std.proofs.lemmas.Bool.{eqb-true, eqb-false, leb-false, ltb-true, cond_both, and_parts, not-true, both_ways}
+use Rattle.ledger.specs.declared.TheConstants.{MAX_ACTIVE, MAX_READS, MAX_WRITES}
 use Rattle.ledger.specs.declared.Call.{Call}
-use Rattle.ledger.specs.declared.Write.{Write}
-use Rattle.ledger.specs.Ledger.{Limits, Transaction, Ledger, found, is_reader, own_write, written, any}
-use Rattle.ledger.specs.Calls.{Outcome, without, changed, joins, joined, same_range, no_room, is_some, wrote}
+use Rattle.ledger.specs.declared.Write.{Write as Entry}
+use Rattle.ledger.specs.Ledger.{Limits, Transaction, Ledger, found, is_reader, own_write, written}
+use Rattle.ledger.specs.Calls.{without, changed, joins, joined, same_range, no_room, wrote, reclaimed, having_made}
+use Rattle.ledger.specs.History.{Deed}
 use Rattle.ledger.specs.Orderly.{Apart, Distinct, Fine, Sound}
-use Rattle.ledger.proofs.Actives.{Keeps, change, change_keeps, joined_keeps, all_found, all_changed}
-use Rattle.ledger.proofs.Ways.{Judges, standing, tidied, Way, refusing, beginning, reading, writing, closing, losing, committing, aborting, reclaiming}
+use Rattle.ledger.proofs.Actives.{Keeps, change, change_keeps, call_keeps, all_found, all_changed}
+use Rattle.ledger.proofs.Steps.{Makes, resting, beginning, reading, setting, committing, ending}
 
 length_kept : {X : Type 0} (p : X → Bool) (xs : List X) → length (filter p xs) ≤ length xs
 length_kept p [] = omega arith
@@ -26,7 +30,7 @@ apart_map f keeps (t ∷ ts) a =
     (All-map _ f ts (All-weaker _ (λ u. (f u).start ≡ (f t).start → ⊥) (λ u ne e. ne (sym (keeps u) ∙ e ∙ keeps t)) ts a.0), apart_map f keeps ts a.1)
 
 abbrev Actives : Limits → ℕ → List Transaction → Type 0
-Actives n c ts = AllByRecursion (Fine n c) ts × Apart ts × (length ts ≤ 16)
+Actives n c ts = AllByRecursion (Fine n c) ts × Apart ts × (length ts ≤ MAX_ACTIVE)
 
 actives_without : (n : Limits) (c : ℕ) (ts : List Transaction) (h : ℕ) → Actives n c ts → Actives n c (without ts h)
 actives_without n c ts h a = let le = length_kept (λ t. not (eqb t.start h)) ts in (all_kept_by _ _ ts a.0, apart_kept _ ts a.1, omega (arith, a.2))
@@ -39,14 +43,14 @@ fine_later n c t b = record { late = b.late; by = omega (arith, b.by); few_reads
 
 -- A read that joins
 
-fine_joined : (n : Limits) (c : ℕ) (t : Transaction) (k m : ℕ) → Fine n c t → k + m ≤ n.keys → (joins t k m && leb 32 (length t.reads)) ≡ false → Fine n c (joined t k m)
+fine_joined : (n : Limits) (c : ℕ) (t : Transaction) (k m : ℕ) → Fine n c t → k + m ≤ n.keys → (joins t k m && leb MAX_READS (length t.reads)) ≡ false → Fine n c (joined t k m)
 fine_joined n c t k m b inside room = go (joins t k m) refl room
   where
-    go : (j : Bool) → joins t k m ≡ j → (j && leb 32 (length t.reads)) ≡ false → Fine n c (cond j (record { start = t.start; kind = t.kind; reads = t.reads ++ (record { first = k; count = m } ∷ []); writes = t.writes }) t)
+    go : (j : Bool) → joins t k m ≡ j → (j && leb MAX_READS (length t.reads)) ≡ false → Fine n c (cond j (record { start = t.start; kind = t.kind; reads = t.reads ++ (record { first = k; count = m } ∷ []); writes = t.writes }) t)
     go true d e =
-        let p = and_parts (not (is_reader t.kind)) (ltb 0 m && not (any (same_range k m) t.reads)) d in
-        let q = and_parts (ltb 0 m) (not (any (same_range k m) t.reads)) p.1 in
-        let lt = leb-false 32 (length t.reads) e in
+        let p = and_parts (not (is_reader t.kind)) (ltb 0 m && not (list_any (same_range k m) t.reads)) d in
+        let q = and_parts (ltb 0 m) (not (list_any (same_range k m) t.reads)) p.1 in
+        let lt = leb-false MAX_READS (length t.reads) e in
         record {
           late = b.late;
           by = b.by;
@@ -61,11 +65,11 @@ fine_joined n c t k m b inside room = go (joins t k m) refl room
 
 -- A write: a key written again takes no more room
 
-length_written : (ws : List Write) (k x : ℕ) → length (written ws k x) ≡ cond (is_some (own_write k ws)) (length ws) (suc (length ws))
+length_written : (ws : List Entry) (k x : ℕ) → length (written ws k x) ≡ cond (is_some (own_write k ws)) (length ws) (suc (length ws))
 length_written [] k x = refl
 length_written (w ∷ ws) k x = go (eqb w.key k) (length_written ws k x)
   where
-    go : (b : Bool) → length (written ws k x) ≡ cond (is_some (own_write k ws)) (length ws) (suc (length ws)) → length (cond b (record { key = k; value = x } ∷ ws) (w ∷ written ws k x)) ≡ cond (is_some (cond b (Some w.value) (own_write k ws))) (suc (length ws)) (suc (suc (length ws)))
+    go : (b : Bool) → length (written ws k x) ≡ cond (is_some (own_write k ws)) (length ws) (suc (length ws)) → length (cond b (record { key = k; value = x } ∷ ws) (w ∷ written ws k x)) ≡ cond (is_some (option_map (λ (v : Entry). v.value) (cond b (Some w) (find (λ v. eqb v.key k) ws)))) (suc (length ws)) (suc (suc (length ws)))
     go true ih = refl
     go false ih = two (is_some (own_write k ws)) ih
       where
@@ -73,24 +77,24 @@ length_written (w ∷ ws) k x = go (eqb w.key k) (length_written ws k x)
         two true e = ap suc e
         two false e = ap suc e
 
-few_written : (ws : List Write) (k x : ℕ) → length ws ≤ 32 → (not (is_some (own_write k ws)) && leb 32 (length ws)) ≡ false → length (written ws k x) ≤ 32
+few_written : (ws : List Entry) (k x : ℕ) → length ws ≤ MAX_WRITES → (not (is_some (own_write k ws)) && leb MAX_WRITES (length ws)) ≡ false → length (written ws k x) ≤ MAX_WRITES
 few_written ws k x few room = rw length_written (go (is_some (own_write k ws)) room)
   where
-    go : (c : Bool) → (not c && leb 32 (length ws)) ≡ false → cond c (length ws) (suc (length ws)) ≤ 32
+    go : (c : Bool) → (not c && leb MAX_WRITES (length ws)) ≡ false → cond c (length ws) (suc (length ws)) ≤ MAX_WRITES
     go true e = few
-    go false e = leb-false 32 (length ws) e
+    go false e = leb-false MAX_WRITES (length ws) e
 
-all_written : (P : Write → Type 0) (ws : List Write) (k x : ℕ) → P (record { key = k; value = x }) → AllByRecursion P ws → AllByRecursion P (written ws k x)
+all_written : (P : Entry → Type 0) (ws : List Entry) (k x : ℕ) → P (record { key = k; value = x }) → AllByRecursion P ws → AllByRecursion P (written ws k x)
 all_written P [] k x p a = (p, tt)
 all_written P (w ∷ ws) k x p a = cond_both (eqb w.key k) (record { key = k; value = x } ∷ ws) (w ∷ written ws k x) (AllByRecursion P) (λ _. (p, a.1)) (λ _. (a.0, all_written P ws k x p a.1))
 
-distinct_written : (ws : List Write) (k x : ℕ) → Distinct ws → Distinct (written ws k x)
+distinct_written : (ws : List Entry) (k x : ℕ) → Distinct ws → Distinct (written ws k x)
 distinct_written [] k x d = (tt, tt)
 distinct_written (w ∷ ws) k x d = cond_both (eqb w.key k) (record { key = k; value = x } ∷ ws) (w ∷ written ws k x) Distinct
     (λ e. (subst (λ j. AllByRecursion (λ u. u.key ≡ j → ⊥) ws) (eqb-true w.key k e) d.0, d.1))
     (λ e. (all_written (λ u. u.key ≡ w.key → ⊥) ws k x (λ q. eqb-false w.key k e (sym q)) d.0, distinct_written ws k x d.1))
 
-fine_wrote : (n : Limits) (c : ℕ) (t : Transaction) (k x : ℕ) → Fine n c t → is_reader t.kind ≡ false → k + 1 ≤ n.keys → no_room t k ≡ false → Fine n c (wrote t k x)
+fine_wrote : (n : Limits) (c : ℕ) (t : Transaction) (k x : ℕ) → Fine n c t → is_reader t.kind ≡ false → k + 1 ≤ n.keys → no_room t.writes k ≡ false → Fine n c (wrote t k x)
 fine_wrote n c t k x b upd inside room = record {
   late = b.late;
   by = b.by;
@@ -106,42 +110,34 @@ fine_wrote n c t k x b upd inside room = record {
 next_apart : (n : Limits) (c : ℕ) (ts : List Transaction) → AllByRecursion (Fine n c) ts → AllByRecursion (λ u. u.start ≡ c + 1 → ⊥) ts
 next_apart n c ts a = All-weaker (Fine n c) _ (λ u b e. omega (arith, b.by)) ts a
 
-pub writes_keeps : (k x : ℕ) → Keeps (λ u. wrote u k x)
-writes_keeps k x = record { start = λ t. refl; kind = λ t. refl }
-
 abbrev parts : (l : Ledger) → Sound l → Actives l.limits l.clock l.active
 parts l s = (s.fine, s.apart, s.few)
 
-pub sound_judged : {l m : Ledger} {n : ℕ} → Judges l n m → Sound l → Sound m
-sound_judged (standing p) s = s
-sound_judged (tidied p) s = record { fine = s.fine; apart = s.apart; few = s.few }
+pub sound_reclaimed : (l : Ledger) → Sound l → Sound (reclaimed l)
+sound_reclaimed l s = record { fine = s.fine; apart = s.apart; few = s.few }
 
 fine_found : (l : Ledger) → Sound l → (h : ℕ) (t : Transaction) → found l.active h ≡ Some t → Fine l.limits l.clock t
 fine_found l s h t f = (all_found (Fine l.limits l.clock) l.active h t s.fine f).0
 
-pub sound_after : {l : Ledger} {b : List ℕ} {c : Call} {o : Outcome} → Sound l → Way l b c o → Sound o.ledger
-sound_after s (refusing f) = s
-sound_after {l = l} s (beginning {kind = kind} few more) = record {
+sound_changed : (l : Ledger) (h : ℕ) (f : Transaction → Transaction) (t : Transaction) → Keeps f → Sound l → found l.active h ≡ Some t → Fine l.limits l.clock (f t) → Sound (record { limits = l.limits; clock = l.clock; active = changed l.active h f; versions = l.versions; trimmed = l.trimmed })
+sound_changed l h f t k s e new =
+    let a = actives_changed l.limits l.clock l.active h f t k e (parts l s) new in
+    record { fine = a.0; apart = a.1; few = a.2 }
+
+pub sound_made : (l m : Ledger) (d : Deed) → Sound l → Makes l d m → Sound m
+sound_made l m d s resting = s
+sound_made l m d s (beginning few more) = record {
   fine = (record { late = omega arith; by = omega arith; few_reads = omega arith; few_writes = omega arith; ranges = tt; keys = tt; distinct = tt; reads_only = λ r. (refl, refl) }, All-weaker _ _ (fine_later l.limits l.clock) l.active s.fine);
   apart = (next_apart l.limits l.clock l.active s.fine, s.apart);
   few = few;
 }
-sound_after {l = l} s (reading {h = h} {k = k} {n = n} t f inside fits room) =
-    let a = actives_changed l.limits l.clock l.active h (λ u. joined u k n) t (joined_keeps k n) f (parts l s) (fine_joined l.limits l.clock t k n (fine_found l s h t f) inside room) in
-    record { fine = a.0; apart = a.1; few = a.2 }
-sound_after {l = l} s (writing {h = h} {k = k} {x = x} t f upd inside room) =
-    let a = actives_changed l.limits l.clock l.active h (λ u. wrote u k x) t (writes_keeps k x) f (parts l s) (fine_wrote l.limits l.clock t k x (fine_found l s h t f) upd inside room) in
-    record { fine = a.0; apart = a.1; few = a.2 }
-sound_after {l = l} s (closing {h = h} t f r) =
+sound_made l m d s (reading {h = h} {k = k} {n = n} t f inside room) =
+    sound_changed l h (λ u. having_made u (Call.Read h k n)) t (call_keeps (Call.Read h k n)) s f (fine_joined l.limits l.clock t k n (fine_found l s h t f) inside room)
+sound_made l m d s (setting {h = h} {k = k} {x = x} t f upd inside room) =
+    sound_changed l h (λ u. having_made u (Call.Write h k x)) t (call_keeps (Call.Write h k x)) s f (fine_wrote l.limits l.clock t k x (fine_found l s h t f) upd inside room)
+sound_made l m d s (committing {h = h} t f upd clear more room) =
+    let a = actives_without l.limits l.clock l.active t.start (parts l s) in
+    record { fine = All-weaker _ _ (fine_later l.limits l.clock) (without l.active t.start) a.0; apart = a.1; few = a.2 }
+sound_made l m d s (ending {h = h} t f) =
     let a = actives_without l.limits l.clock l.active h (parts l s) in
     record { fine = a.0; apart = a.1; few = a.2 }
-sound_after s (losing {m = m} t f r j why) =
-    let a = actives_without m.limits m.clock m.active t.start (parts m (sound_judged j s)) in
-    record { fine = a.0; apart = a.1; few = a.2 }
-sound_after s (committing {m = m} t f r j clear more room) =
-    let a = actives_without m.limits m.clock m.active t.start (parts m (sound_judged j s)) in
-    record { fine = All-weaker _ _ (fine_later m.limits m.clock) (without m.active t.start) a.0; apart = a.1; few = a.2 }
-sound_after {l = l} s (aborting {h = h} t f) =
-    let a = actives_without l.limits l.clock l.active h (parts l s) in
-    record { fine = a.0; apart = a.1; few = a.2 }
-sound_after s reclaiming = record { fine = s.fine; apart = s.apart; few = s.few }

@@ -1,16 +1,16 @@
 -- The stamps of every ledger that is reached: drawn before, newest first, each key's falling.
-use Rattle.std.proofs.Common.{◌≡◌, ℕ, ◌+◌, ◌<◌, ◌≤◌, true, List, [], ◌∷◌, ◌++◌, map, Some, sym, refl, ◌∙◌, arith}
+use Rattle.std.proofs.Common.{◌≡◌, ℕ, ◌+◌, ◌<◌, ◌≤◌, true, List, [], ◌∷◌, ◌++◌, map, sym, refl, ◌∙◌, arith}
 use Rattle.std.specs.List.{AllByRecursion}
 use Rattle.std.proofs.ByRecursion.{All-append, All-weaker, All-map, all_kept_by}
 use Rattle.ledger.specs.declared.Call.{Call}
 use Rattle.ledger.specs.declared.Write.{Write as Entry}
-use Rattle.ledger.specs.Ledger.{Transaction, Version, Ledger, found, horizon}
-use Rattle.ledger.specs.Calls.{Outcome, with_active, without, changed, joined, wrote, reclaimed, stamped, installed}
+use Rattle.ledger.specs.Ledger.{Transaction, Version, Ledger, outlook}
+use Rattle.ledger.specs.Calls.{with_active, without, changed, ended, reclaimed, stamped, installed}
+use Rattle.ledger.specs.History.{Deed}
 use Rattle.ledger.specs.Orderly.{Distinct, Fine, Sound, Falling, Strict, Dated}
-use Rattle.ledger.proofs.Actives.{Keeps, joined_keeps, all_found, all_changed_same, all_two}
-use Rattle.ledger.proofs.Sounds.{writes_keeps, sound_judged}
+use Rattle.ledger.proofs.Actives.{Keeps, call_keeps, all_found, all_changed_same, all_two}
 use Rattle.ledger.proofs.Deaths.{clear}
-use Rattle.ledger.proofs.Ways.{Judges, standing, tidied, Way, refusing, beginning, reading, writing, closing, losing, committing, aborting, reclaiming}
+use Rattle.ledger.proofs.Steps.{Makes, resting, beginning, reading, setting, committing, ending}
 
 -- what holds of the versions of a commit
 pub all_stamped : (P : Version → Type 0) (c : ℕ) (ws : List Entry) → AllByRecursion (λ w. P (record { key = w.key; stamp = c; value = w.value; present = true })) ws → AllByRecursion P (stamped c ws)
@@ -46,15 +46,15 @@ Unlike vs ts = AllByRecursion (λ t. AllByRecursion (λ v. v.stamp ≡ t.start �
 dated_active : (l : Ledger) (ts : List Transaction) → Dated l → Unlike l.versions ts → Dated (with_active l ts)
 dated_active l ts d u = record { ticks = d.ticks; late = d.late; stamps = d.stamps; keys = d.keys; falling = d.falling; strict = d.strict; unlike = u }
 
-dated_out : (l : Ledger) (h : ℕ) → Dated l → Dated (with_active l (without l.active h))
-dated_out l h d = dated_active l (without l.active h) d (all_kept_by _ _ l.active d.unlike)
+dated_ended : (l : Ledger) (h : ℕ) → Dated l → Dated (ended l h)
+dated_ended l h d = dated_active l (without l.active h) d (all_kept_by _ _ l.active d.unlike)
 
 dated_changed : (l : Ledger) (h : ℕ) (f : Transaction → Transaction) → Keeps f → Dated l → Dated (with_active l (changed l.active h f))
 dated_changed l h f k d = dated_active l (changed l.active h f) d (all_changed_same (λ s _. AllByRecursion (λ v. v.stamp ≡ s → ⊥) l.versions) l.active h f k d.unlike)
 
-dated_reclaimed : (l : Ledger) → Dated l → Dated (reclaimed l)
+pub dated_reclaimed : (l : Ledger) → Dated l → Dated (reclaimed l)
 dated_reclaimed l d =
-    let C = clear (horizon l) l.versions in
+    let C = clear (outlook l) l.versions in
     record {
       ticks = d.ticks;
       late = All-map _ C l.versions d.late;
@@ -64,10 +64,6 @@ dated_reclaimed l d =
       strict = strict_map C (λ v. refl) (λ v. refl) l.versions d.strict;
       unlike = All-weaker _ (λ t. AllByRecursion (λ v. v.stamp ≡ t.start → ⊥) (map C l.versions)) (λ t a. All-map (λ v. v.stamp ≡ t.start → ⊥) C l.versions a) l.active d.unlike;
     }
-
-dated_judged : {l m : Ledger} {n : ℕ} → Judges l n m → Dated l → Dated m
-dated_judged (standing p) d = d
-dated_judged {l = l} (tidied p) d = dated_reclaimed l d
 
 dated_installed : (l : Ledger) (t : Transaction) → AllByRecursion (Fine l.limits l.clock) l.active → Fine l.limits l.clock t → l.clock < l.limits.last → Dated l → Dated (installed l t)
 dated_installed l t fine f more d =
@@ -84,13 +80,9 @@ dated_installed l t fine f more d =
           (λ u b a. All-append _ (stamped c t.writes) l.versions (all_stamped (λ v. v.stamp ≡ u.start → ⊥) c t.writes (all_each _ (λ w e. omega (arith, b.by)) t.writes)) a) l.active fine d.unlike);
     }
 
-fine_judged : {l m : Ledger} {n : ℕ} → Judges l n m → Sound l → (h : ℕ) (t : Transaction) → found l.active h ≡ Some t → Fine m.limits m.clock t
-fine_judged {l = l} (standing p) s h t f = (all_found (Fine l.limits l.clock) l.active h t s.fine f).0
-fine_judged {l = l} (tidied p) s h t f = (all_found (Fine l.limits l.clock) l.active h t s.fine f).0
-
-pub dated_after : {l : Ledger} {b : List ℕ} {c : Call} {o : Outcome} → Sound l → Dated l → Way l b c o → Dated o.ledger
-dated_after s d (refusing f) = d
-dated_after {l = l} s d (beginning few more) = record {
+pub dated_made : (l m : Ledger) (d : Deed) → Sound l → Dated l → Makes l d m → Dated m
+dated_made l m e s d resting = d
+dated_made l m e s d (beginning few more) = record {
   ticks = omega arith;
   late = d.late;
   stamps = All-weaker _ _ (λ v le. omega arith) l.versions d.stamps;
@@ -99,10 +91,7 @@ dated_after {l = l} s d (beginning few more) = record {
   strict = d.strict;
   unlike = (All-weaker _ _ (λ v le e. omega arith) l.versions d.stamps, d.unlike);
 }
-dated_after {l = l} s d (reading {h = h} {k = k} {n = n} t f inside fits room) = dated_changed l h (λ u. joined u k n) (joined_keeps k n) d
-dated_after {l = l} s d (writing {h = h} {k = k} {x = x} t f upd inside room) = dated_changed l h (λ u. wrote u k x) (writes_keeps k x) d
-dated_after {l = l} s d (closing {h = h} t f r) = dated_out l h d
-dated_after s d (losing {m = m} t f r j why) = dated_out m t.start (dated_judged j d)
-dated_after s d (committing {h = h} {m = m} t f r j clear more room) = dated_installed m t (sound_judged j s).fine (fine_judged j s h t f) more (dated_judged j d)
-dated_after {l = l} s d (aborting {h = h} t f) = dated_out l h d
-dated_after {l = l} s d reclaiming = dated_reclaimed l d
+dated_made l m e s d (reading {h = h} {k = k} {n = n} t f inside room) = dated_changed l h _ (call_keeps (Call.Read h k n)) d
+dated_made l m e s d (setting {h = h} {k = k} {x = x} t f upd inside room) = dated_changed l h _ (call_keeps (Call.Write h k x)) d
+dated_made l m e s d (committing {h = h} t f upd clear more room) = dated_installed l t s.fine (all_found (Fine l.limits l.clock) l.active h t s.fine f).0 more d
+dated_made l m e s d (ending {h = h} t f) = dated_ended l h d
