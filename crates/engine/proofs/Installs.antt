@@ -1,27 +1,29 @@
 -- A commit: with its writes added and noted, store and validator hold the ledger with its versions.
-use Rattle.std.proofs.Common.{◌≡◌, ℕ, ◌+◌, ◌<◌, ◌≤◌, max, Bool, true, false, cond, ◌&&◌, ◌||◌, eqb, ltb, List, [], ◌∷◌, ◌++◌, length, Some, None, Option, sym, refl, ap, ◌∙◌, subst, arith}
-use Rattle.std.specs.List.{AllByRecursion}
+use Rattle.std.proofs.Common.{◌≡◌, ℕ, ◌+◌, ◌<◌, ◌≤◌, max, Bool, true, false, cond, ◌&&◌, ◌||◌, eqb, ltb, List, [], ◌∷◌, ◌++◌, length, ◌-◌, Some, None, Option, sym, refl, ap, ◌∙◌, subst, arith}
+use Rattle.std.specs.List.{AllByRecursion, find, list_any}
+use Rattle.std.specs.Option.{option_map}
 use Rattle.std.proofs.ByRecursion.{All-weaker}
 use Rattle.std.proofs.lemmas.Bool.{eqb-true, ne_eqb, le-ltb, lt-leb, cond_both}
 use Rattle.ledger.specs.declared.Write.{Write}
-use Rattle.ledger.specs.Ledger.{Version, Transaction, Ledger, any, own_write}
-use Rattle.ledger.specs.Calls.{granule_stamp, stamped, installed, free}
+use Rattle.ledger.specs.Ledger.{Version, Transaction, Ledger, present_count, own_write}
+use Rattle.ledger.specs.Calls.{granule_stamp, stamped, installed}
 use Rattle.ledger.specs.Orderly.{Distinct, Fine, Orderly}
 use Rattle.ledger.proofs.Actives.{all_two}
-use Rattle.versions.specs.Meaning.{Meaning as Store, newest, kept, put}
+use Rattle.ledger.proofs.Verdicts.{granule_le}
+use Rattle.versions.specs.Meaning.{Store, Revision, newest, kept, put}
 use Rattle.versions.proofs.Lists.{sum_one}
 use Rattle.versions.proofs.Meanings.{add_fine, added_done}
-use Rattle.validation.specs.Meaning.{Meaning as Stamps, stamp_at, noted, with_stamps}
-use Rattle.engine.specs.Fits.{chain_of, kept_stamp, Holds}
+use Rattle.validation.specs.Meaning.{Stamps, stamp_at, noted, with_stamps}
+use Rattle.engine.specs.Fits.{revisions_of, kept_stamp, Holds}
 use Rattle.engine.specs.Endings.{all_added, all_noted}
-use Rattle.engine.proofs.Reclaims.{chain_below, kept_is}
+use Rattle.engine.proofs.Prunes.{revisions_below, kept_is}
 
 -- The store
 
 -- a key's list with its own write of a commit in front
-abbrev with_own : Option ℕ → ℕ → List (ℕ × ℕ) → List (ℕ × ℕ)
+abbrev with_own : Option ℕ → ℕ → List Revision → List Revision
 with_own None c ps = ps
-with_own (Some x) c ps = (c, x) ∷ ps
+with_own (Some x) c ps = record { stamp = c; value = x } ∷ ps
 
 own_none : (k : ℕ) (ws : List Write) → AllByRecursion (λ u. u.key ≡ k → ⊥) ws → own_write k ws ≡ None
 own_none k [] a = refl
@@ -35,37 +37,37 @@ pub record Added (c : ℕ) (ws : List Write) (s t : Store) : Type 0 where
 kept_put : (s : Store) (k c x : ℕ) → k < s.keys → kept (put k c x s) ≡ kept s + 1
 kept_put s k c x lt = sum_one s.keys k (λ j. length (s.versions j)) (λ j. length ((put k c x s).versions j)) lt (λ j. longer j (eqb k j))
   where
-    longer : (j : ℕ) (b : Bool) → length (cond b ((c, x) ∷ s.versions j) (s.versions j)) ≡ length (s.versions j) + cond b 1 0
+    longer : (j : ℕ) (b : Bool) → length (cond b (record { stamp = c; value = x } ∷ s.versions j) (s.versions j)) ≡ length (s.versions j) + cond b 1 0
     longer j true = omega arith
     longer j false = omega arith
 
-pub added_all : (c : ℕ) (ws : List Write) (s : Store) → Distinct ws → AllByRecursion (λ w. w.key < s.keys) ws → AllByRecursion (λ w. (newest (s.versions w.key)).0 < c) ws → kept s + length ws ≤ s.cells → Added c ws s (all_added c s ws)
+pub added_all : (c : ℕ) (ws : List Write) (s : Store) → Distinct ws → AllByRecursion (λ w. w.key < s.keys) ws → AllByRecursion (λ w. (newest (s.versions w.key)).stamp < c) ws → kept s + length ws ≤ s.cells → Added c ws s (all_added c s ws)
 added_all c [] s d k n r = record { keys = refl; cells = refl; versions = λ k. refl }
 added_all c (w ∷ ws) s d k n r =
     let p = put w.key c w.value s in
     let fine = added_done s w.key c w.value (add_fine s w.key c k.0 n.0 (omega arith)) in
     let more = kept_put s w.key c w.value k.0 in
-    let others : AllByRecursion (λ u. (newest (p.versions u.key)).0 < c) ws = all_two _ _ (λ u. (newest (p.versions u.key)).0 < c) (λ u ne lt. rw (ne_eqb w.key u.key (λ e. ne (sym e))) lt) ws d.0 n.1 in
+    let others : AllByRecursion (λ u. (newest (p.versions u.key)).stamp < c) ws = all_two _ _ (λ u. (newest (p.versions u.key)).stamp < c) (λ u ne lt. rw (ne_eqb w.key u.key (λ e. ne (sym e))) lt) ws d.0 n.1 in
     let rest = added_all c ws p d.1 k.1 others (omega arith) in
     subst (λ t. Added c (w ∷ ws) s (all_added c t ws)) fine (record { keys = rest.keys; cells = rest.cells; versions = λ j. rest.versions j ∙ here j (eqb w.key j) refl })
   where
-    here : (j : ℕ) (b : Bool) → eqb w.key j ≡ b → with_own (own_write j ws) c (cond b ((c, w.value) ∷ s.versions j) (s.versions j)) ≡ with_own (cond b (Some w.value) (own_write j ws)) c (s.versions j)
+    here : (j : ℕ) (b : Bool) → eqb w.key j ≡ b → with_own (own_write j ws) c (cond b (record { stamp = c; value = w.value } ∷ s.versions j) (s.versions j)) ≡ with_own (option_map (λ (v : Write). v.value) (cond b (Some w) (find (λ v. eqb v.key j) ws))) c (s.versions j)
     here j true e = rw (own_none j ws (subst (λ i. AllByRecursion (λ u. u.key ≡ i → ⊥) ws) (eqb-true w.key j e) d.0))
     here j false e = refl
 
-chain_stamped : (k c : ℕ) (ws : List Write) (vs : List Version) → Distinct ws → chain_of k (stamped c ws ++ vs) ≡ with_own (own_write k ws) c (chain_of k vs)
-chain_stamped k c [] vs d = refl
-chain_stamped k c (w ∷ ws) vs d = go (eqb w.key k) refl (chain_stamped k c ws vs d.1)
+revisions_stamped : (k c : ℕ) (ws : List Write) (vs : List Version) → Distinct ws → revisions_of k (stamped c ws ++ vs) ≡ with_own (own_write k ws) c (revisions_of k vs)
+revisions_stamped k c [] vs d = refl
+revisions_stamped k c (w ∷ ws) vs d = go (eqb w.key k) refl (revisions_stamped k c ws vs d.1)
   where
-    go : (b : Bool) → eqb w.key k ≡ b → chain_of k (stamped c ws ++ vs) ≡ with_own (own_write k ws) c (chain_of k vs) → cond (b && true) ((c, w.value) ∷ chain_of k (stamped c ws ++ vs)) (chain_of k (stamped c ws ++ vs)) ≡ with_own (cond b (Some w.value) (own_write k ws)) c (chain_of k vs)
-    go true e ih = let none = own_none k ws (subst (λ i. AllByRecursion (λ u. u.key ≡ i → ⊥) ws) (eqb-true w.key k e) d.0) in ap (λ ps. (c, w.value) ∷ ps) (ih ∙ ap (λ o. with_own o c (chain_of k vs)) none)
+    go : (b : Bool) → eqb w.key k ≡ b → revisions_of k (stamped c ws ++ vs) ≡ with_own (own_write k ws) c (revisions_of k vs) → cond (b && true) (record { stamp = c; value = w.value } ∷ revisions_of k (stamped c ws ++ vs)) (revisions_of k (stamped c ws ++ vs)) ≡ with_own (option_map (λ (v : Write). v.value) (cond b (Some w) (find (λ v. eqb v.key k) ws))) c (revisions_of k vs)
+    go true e ih = let none = own_none k ws (subst (λ i. AllByRecursion (λ u. u.key ≡ i → ⊥) ws) (eqb-true w.key k e) d.0) in ap (λ ps. record { stamp = c; value = w.value } ∷ ps) (ih ∙ ap (λ o. with_own o c (revisions_of k vs)) none)
     go false e ih = ih
 
 -- The validator
 
 -- one of the writes goes into the granule of the key
 abbrev touches : (ℕ → ℕ) → ℕ → List Write → Bool
-touches g k ws = any (λ w. eqb (g w.key) (g k)) ws
+touches g k ws = list_any (λ w. eqb (g w.key) (g k)) ws
 
 pub record Noted (c : ℕ) (ws : List Write) (v n : Stamps) : Type 0 where
   pub keys : n.keys ≡ v.keys
@@ -88,10 +90,6 @@ noted_all c (w ∷ ws) v k le =
     here j true false = refl
     here j false t = refl
 
-pub granule_below : (g : ℕ → ℕ) (k c : ℕ) (vs : List Version) → AllByRecursion (λ v. v.stamp ≤ c) vs → granule_stamp g k vs ≤ c
-granule_below g k c [] a = omega arith
-granule_below g k c (v ∷ vs) a = let ih = granule_below g k c vs a.1 in cond_both (eqb (g v.key) (g k)) (max v.stamp (granule_stamp g k vs)) (granule_stamp g k vs) (λ x. x ≤ c) (λ _. omega (arith, a.0)) (λ _. ih)
-
 granule_stamped : (g : ℕ → ℕ) (k c : ℕ) (ws : List Write) (vs : List Version) → granule_stamp g k vs ≤ c → granule_stamp g k (stamped c ws ++ vs) ≡ cond (touches g k ws) c (granule_stamp g k vs)
 granule_stamped g k c [] vs le = refl
 granule_stamped g k c (w ∷ ws) vs le = go (eqb (g w.key) (g k)) (touches g k ws) (granule_stamped g k c ws vs le)
@@ -107,31 +105,31 @@ kept_later : (t c s : ℕ) (b : Bool) → t ≤ c → cond b c (kept_stamp t s) 
 kept_later t c s true le = let e = le-ltb c t le in rw e
 kept_later t c s false le = refl
 
-newest_below : (c : ℕ) (ps : List (ℕ × ℕ)) → AllByRecursion (λ p. p.0 ≤ c) ps → (newest ps).0 ≤ c
-newest_below c [] a = omega arith
-newest_below c (p ∷ ps) a = a.0
+newest_at_most : (c : ℕ) (ps : List Revision) → AllByRecursion (λ p. p.stamp ≤ c) ps → (newest ps).stamp ≤ c
+newest_at_most c [] a = omega arith
+newest_at_most c (p ∷ ps) a = a.0
 
 kept_stamp_le : (t s : ℕ) → kept_stamp t s ≤ s
 kept_stamp_le t s = cond_both (ltb s t) 0 s (λ x. x ≤ s) (λ _. omega arith) (λ _. omega arith)
 
-module _ (l : Ledger) (s : Store) (v : Stamps) (t : Transaction) (order : Orderly l) (has : Holds l s v) (keys : s.keys ≡ l.limits.keys) (cells : s.cells ≡ l.limits.cells) (fine : Fine l.limits l.clock t) (room : length t.writes ≤ free l) where
+module _ (l : Ledger) (s : Store) (v : Stamps) (t : Transaction) (order : Orderly l) (has : Holds l s v) (keys : s.keys ≡ l.limits.keys) (cells : s.cells ≡ l.limits.cells) (fine : Fine l.limits l.clock t) (room : length t.writes ≤ l.limits.cells - present_count l) where
   inside : AllByRecursion (λ w. w.key < s.keys) t.writes
   inside = subst (λ n. AllByRecursion (λ w. w.key < n) t.writes) (sym keys) fine.keys
 
   -- every version is older than the tick that is drawn
-  older : (k : ℕ) → k < s.keys → (newest (s.versions k)).0 < l.clock + 1
+  older : (k : ℕ) → k < s.keys → (newest (s.versions k)).stamp < l.clock + 1
   older k lt =
-      let le = newest_below l.clock (chain_of k l.versions) (chain_below k l.clock l.versions (All-weaker _ _ (λ u le e. le) l.versions order.dated.stamps)) in
-      rw (has.chains k lt) (omega (arith, le))
+      let le = newest_at_most l.clock (revisions_of k l.versions) (revisions_below k l.clock l.versions (All-weaker _ _ (λ u le e. le) l.versions order.dated.stamps)) in
+      rw (has.revisions k lt) (omega (arith, le))
 
   pub adds : Added (l.clock + 1) t.writes s (all_added (l.clock + 1) s t.writes)
   adds =
       let known : AllByRecursion (λ u. u.key < s.keys) l.versions = subst (λ n. AllByRecursion (λ u. u.key < n) l.versions) (sym keys) order.dated.keys in
       let few = kept_is l s v has known in
-      added_all (l.clock + 1) t.writes s fine.distinct inside (All-weaker _ _ (λ w lt. older w.key lt) t.writes inside) (omega (arith, few, order.tidy.cells))
+      added_all (l.clock + 1) t.writes s fine.distinct inside (All-weaker _ _ (λ w lt. older w.key lt) t.writes inside) (omega (arith, few, order.safe.cells))
 
   past : (k : ℕ) → granule_stamp v.granule k l.versions ≤ l.clock + 1
-  past k = omega (arith, granule_below v.granule k l.clock l.versions order.dated.stamps)
+  past k = omega (arith, granule_le v.granule k l.clock l.versions order.dated.stamps)
 
   pub notes : Noted (l.clock + 1) t.writes v (all_noted (l.clock + 1) v t.writes)
   notes =
@@ -145,7 +143,7 @@ module _ (l : Ledger) (s : Store) (v : Stamps) (t : Transaction) (order : Orderl
       let vs = l.versions in
       record {
         same_keys = notes.keys ∙ has.same_keys ∙ sym adds.keys;
-        chains = λ k lt. adds.versions k ∙ ap (with_own (own_write k ws) c) (has.chains k (subst (λ m. k < m) adds.keys lt)) ∙ sym (chain_stamped k c ws vs fine.distinct);
+        revisions = λ k lt. adds.versions k ∙ ap (with_own (own_write k ws) c) (has.revisions k (subst (λ m. k < m) adds.keys lt)) ∙ sym (revisions_stamped k c ws vs fine.distinct);
         stamps = λ k lt.
             let in-s = subst (λ m. k < m) adds.keys lt in
             let in-v = subst (λ m. k < m) (sym has.same_keys) in-s in
@@ -153,6 +151,6 @@ module _ (l : Ledger) (s : Store) (v : Stamps) (t : Transaction) (order : Orderl
             ap (λ g. w.stamp (g k)) notes.granule
             ∙ notes.stamps k in-v
             ∙ ap (λ x. cond (touches v.granule k ws) c x) (has.stamps k in-s)
-            ∙ kept_later l.trimmed c (granule_stamp v.granule k vs) (touches v.granule k ws) order.tidy.trimmed_by
+            ∙ kept_later l.trimmed c (granule_stamp v.granule k vs) (touches v.granule k ws) order.safe.trimmed_by
             ∙ ap (kept_stamp l.trimmed) (sym (granule_stamped v.granule k c ws vs (past k)) ∙ ap (λ g. granule_stamp g k (stamped c ws ++ vs)) (sym notes.granule));
       }

@@ -3,9 +3,10 @@ use Rattle.std.specs.Prelude.{◌≡◌, ℕ, ◌<◌, ◌≤◌, if◌then◌el
 use Rattle.ledger.specs.Ledger.{Limits, Version, Ledger, no_limits}
 use Rattle.ledger.specs.Calls.{granule_stamp}
 use Rattle.ledger.specs.Reach.{Reached}
-use Rattle.versions.specs.Meaning.{Meaning as Store}
-use Rattle.validation.specs.Meaning.{Meaning as Stamps, stamp_at}
-use Rattle.transaction_table.specs.declared.table.Table.{Table}
+use Rattle.versions.specs.Meaning.{Store, Revision}
+use Rattle.validation.specs.Meaning.{Stamps, stamp_at}
+use Rattle.transaction_table.specs.declared.table.TransactionTable.{TransactionTable}
+use Rattle.engine.specs.declared.engine.TheConstants.{LAST_TICK}
 use Rattle.transaction_table.specs.View.{active_of}
 use Rattle.transaction_table.specs.Shuffle.{Shuffle}
 
@@ -13,10 +14,16 @@ use Rattle.transaction_table.specs.Shuffle.{Shuffle}
 abbrev pub limits_of : ℕ → Store → Stamps → Limits
 limits_of last s v = if last == 0 then no_limits else record { keys = s.keys; cells = s.cells; last = last; granule = v.granule }
 
--- stamp and value of each present version of a key, newest first
-abbrev pub chain_of : ℕ → List Version → List (ℕ × ℕ)
-chain_of k [] = []
-chain_of k (v ∷ vs) = if v.key == k && v.present then (v.stamp, v.value) ∷ chain_of k vs else chain_of k vs
+-- a version as a store has it
+abbrev pub as_revision : Version → Revision
+as_revision v = record { stamp = v.stamp; value = v.value }
+
+-- the present versions of a key, newest first
+abbrev pub revisions_of : ℕ → List Version → List Revision
+revisions_of k [] = []
+revisions_of k (v ∷ vs) =
+    if v.key == k && v.present then as_revision v ∷ revisions_of k vs
+    else revisions_of k vs
 
 -- a granule's stamp after a trim
 abbrev pub kept_stamp : ℕ → ℕ → ℕ
@@ -26,14 +33,14 @@ kept_stamp trim s = if nat_lt s trim then 0 else s
 pub record Holds (l : Ledger) (s : Store) (v : Stamps) : Type 0 where
   pub same_keys : v.keys ≡ s.keys
   -- the store's lists are the present versions
-  pub chains : (k : ℕ) → k < s.keys → s.versions k ≡ chain_of k l.versions
+  pub revisions : (k : ℕ) → k < s.keys → s.versions k ≡ revisions_of k l.versions
   -- the stamp of a granule is its latest commit tick, or 0 where there is none or a trim lay above it
   pub stamps : (k : ℕ) → k < s.keys → stamp_at v k ≡ kept_stamp l.trimmed (granule_stamp v.granule k l.versions)
 
-pub record Fits (l : Ledger) (t : Table) (s : Store) (v : Stamps) : Type 0 where
+pub record Fits (l : Ledger) (t : TransactionTable) (s : Store) (v : Stamps) : Type 0 where
   -- calls on a new ledger lead to this one
   pub reached : Reached l
-  pub ticks : t.last ≤ 4294967294
+  pub ticks : t.last ≤ LAST_TICK
   pub limits : l.limits ≡ limits_of t.last s v
   pub clock : l.clock ≡ t.clock
   pub active : Shuffle l.active (active_of t.records)

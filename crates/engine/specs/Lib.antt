@@ -4,5 +4,5 @@ pub mod SetUp
 pub mod Endings
 pub mod Verdicts
 pub mod Parts
-pub mod Serves
+pub mod Steps
 pub mod Replays

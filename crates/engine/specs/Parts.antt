@@ -1,9 +1,9 @@
 -- What an engine is made of, and what a slip holds.
 use Rattle.std.specs.Prelude.{ℕ}
 use Rattle.ledger.specs.Ledger.{Ledger, new_ledger}
-use Rattle.versions.specs.Meaning.{Meaning as Store}
-use Rattle.validation.specs.Meaning.{Meaning as Stamps}
-use Rattle.transaction_table.specs.declared.table.Table.{Table}
+use Rattle.versions.specs.Meaning.{Store}
+use Rattle.validation.specs.Meaning.{Stamps}
+use Rattle.transaction_table.specs.declared.table.TransactionTable.{TransactionTable}
 use Rattle.engine.specs.declared.engine.Engine.{Engine}
 use Rattle.engine.specs.declared.slip.Slip.{Slip}
 use Rattle.engine.specs.Fits.{Fits, limits_of}
@@ -15,7 +15,7 @@ abbrev pub validator_of : {S V : Type 0} → Engine S V → V
 validator_of e = e.validator
 
 -- its clock and its active transactions
-abbrev pub table_of : {S V : Type 0} → Engine S V → Table
+abbrev pub table_of : {S V : Type 0} → Engine S V → TransactionTable
 table_of e = e.table
 
 -- the ledger fits the engine
@@ -27,5 +27,5 @@ abbrev pub FitsNew : {S V : Type 0} → (S → Store) → (V → Stamps) → Eng
 FitsNew m p e = FitsEngine m p (new_ledger (limits_of e.table.last (m e.store) (p e.validator))) e
 
 -- the transaction that a slip gives leave to act in
-abbrev pub handle_of : {K : Type 0} → Slip K → ℕ
-handle_of s = s.handle
+abbrev pub slip_handle : {K : Type 0} → Slip K → ℕ
+slip_handle s = s.handle

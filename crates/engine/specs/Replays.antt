@@ -3,11 +3,11 @@ use Rattle.std.specs.Prelude.{◌≡◌, ℕ, List, [], ◌∷◌, map, take, dr
 use Rattle.ledger.specs.declared.Call.{Call}
 use Rattle.ledger.specs.Ledger.{Limits}
 use Rattle.ledger.specs.History.{Made}
-use Rattle.versions.specs.Meaning.{Meaning as Store}
-use Rattle.validation.specs.Meaning.{Meaning as Stamps}
+use Rattle.versions.specs.Meaning.{Store}
+use Rattle.validation.specs.Meaning.{Stamps}
 use Rattle.engine.specs.declared.engine.Engine.{Engine}
 use Rattle.engine.specs.declared.replay.Request.{Request}
-use Rattle.engine.specs.Serves.{Lawfully, made}
+use Rattle.engine.specs.Steps.{Lawfully, call_made}
 
 -- the buffers lie one after another: that of a request is the next places, as many as it has room for
 abbrev pub beyond : List Request → List ℕ → List ℕ
@@ -18,7 +18,7 @@ beyond (q ∷ qs) bs = beyond qs (drop q.room bs)
 abbrev pub onto : List Made → List Request → List Request → List ℕ → List ℕ → List Made
 onto ms [] rs bs cs = ms
 onto ms (q ∷ qs) [] bs cs = ms
-onto ms (q ∷ qs) (r ∷ rs) bs cs = onto (made q.call (take q.room bs) r.answer (take q.room cs) ∷ ms) qs rs (drop q.room bs) (drop q.room cs)
+onto ms (q ∷ qs) (r ∷ rs) bs cs = onto (call_made q.call (take q.room bs) r.answer (take q.room cs) ∷ ms) qs rs (drop q.room bs) (drop q.room cs)
 
 abbrev pub wish : Request → Call × ℕ
 wish r = (r.call, r.room)

@@ -1,14 +1,14 @@
 -- What the parts of a commit tell of each ledger that fits.
-use Rattle.std.specs.Prelude.{◌≡◌, ℕ, ◌<◌, false, if◌then◌else◌, List, Some, nat_lt}
+use Rattle.std.specs.Prelude.{◌≡◌, ℕ, ◌<◌, false, List, Some, Ok}
 use Rattle.ledger.specs.declared.Verdict.{Verdict}
 use Rattle.ledger.specs.declared.Call.TheVariants.{Commit}
-use Rattle.ledger.specs.declared.Answer.TheVariants.{Ended}
+use Rattle.ledger.specs.declared.Done.TheVariants.{Ended}
 use Rattle.ledger.specs.Ledger.{Transaction, Ledger, found, is_reader}
-use Rattle.ledger.specs.Calls.{Outcome, step, reclaimed, free, without}
-use Rattle.versions.specs.Meaning.{Meaning as Store}
-use Rattle.validation.specs.Meaning.{Meaning as Stamps}
+use Rattle.ledger.specs.Calls.{Outcome, step, with_room, without}
+use Rattle.versions.specs.Meaning.{Store}
+use Rattle.validation.specs.Meaning.{Stamps}
 use Rattle.transaction_table.specs.declared.record.Record.{Record}
-use Rattle.transaction_table.specs.declared.table.Table.{Table}
+use Rattle.transaction_table.specs.declared.table.TransactionTable.{TransactionTable}
 use Rattle.engine.specs.declared.engine.Engine.{Engine}
 use Rattle.transaction_table.specs.View.{view}
 use Rattle.engine.specs.Fits.{limits_of, Holds}
@@ -16,17 +16,13 @@ use Rattle.engine.specs.Parts.{FitsEngine}
 
 -- From e to e' a part of a commit was done. m and p are the meanings of the store and of the validator.
 
--- the ledger that a commit of so many writes judges: where cells are short, the reclaimed one
-abbrev pub with_room : Ledger → ℕ → Ledger
-with_room l n = if nat_lt (free l) n then reclaimed l else l
-
 abbrev pub MakesRoom : {S V : Type 0} → (S → Store) → (V → Stamps) → Engine S V → Engine S V → ℕ → Type 0
 MakesRoom m p e e' n = (l : Ledger) → 0 < e.table.last → FitsEngine m p l e
     → FitsEngine m p (with_room l n) e'
 
 -- the verdict is that of the outcome, and but for the record, which is still taken, the outcome's ledger fits; ts are its transactions
-pub record Judged (o : Outcome) (b : List ℕ) (ts : List Transaction) (verdict : Verdict) (t t' : Table) (s : Store) (v : Stamps) : Type 0 where
-  pub answer : Ended verdict ≡ o.answer
+pub record Judged (o : Outcome) (b : List ℕ) (ts : List Transaction) (verdict : Verdict) (t t' : TransactionTable) (s : Store) (v : Stamps) : Type 0 where
+  pub answer : Ok (Ended verdict) ≡ o.answer
   pub buffer : b ≡ o.buffer
   pub clock : o.ledger.clock ≡ t'.clock
   pub last : t'.last ≡ t.last

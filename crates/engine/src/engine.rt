@@ -1,21 +1,21 @@
 ghost use Rattle.std.specs.Prelude.{◌≡◌, ◌+◌, ◌^◌, ◌<◌, ◌≤◌, ◌++◌, map, length, drop, position, IfOk, OnErr};
+ghost use Rattle.std.specs.List.{range_with_len};
 ghost use Rattle.std.specs.Option.{ok_or};
 ghost use Rattle.ledger.specs.declared.Call.TheVariants.{Begin, Read, Write, Abort};
-ghost use Rattle.ledger.specs.declared.Answer.TheVariants.{Began, Read as ReadDone, Wrote, Aborted};
+ghost use Rattle.ledger.specs.declared.Done.TheVariants.{Began, Read as ReadDone, Wrote, Aborted};
 ghost use Rattle.ledger.specs.declared.Fault.TheVariants.{NoTransaction};
-ghost use Rattle.ledger.specs.Calls.{keys_from};
 ghost use Rattle.transaction_table.specs.View.{view};
 ghost use Rattle.transaction_table.specs.Places.{begin_answer, has_handle};
-ghost use Rattle.engine.specs.Shows.{shown, value_in};
+ghost use Rattle.engine.specs.Shows.{shown};
 ghost use Rattle.engine.specs.Parts.{store_of, validator_of, table_of, FitsNew};
-ghost use Rattle.engine.specs.SetUp.{set_up_answer, last_of};
-ghost use Rattle.engine.specs.Serves.{Serves, ServesBare, Idle, told};
+ghost use Rattle.engine.specs.SetUp.{engine_check, last_of};
+ghost use Rattle.engine.specs.Steps.{Refines, RefinesUnlent, Idle, answer_by};
 
-use ledger::{Call, Fault, Kind, Range};
+use crate::fault::SetUpFault;
+use ledger::{Call, Fault, Kind, MAX_ACTIVE, Range};
 use transaction_table::record::{Record, State};
-use transaction_table::table::Table;
+use transaction_table::table::TransactionTable;
 use validation::validator::Validator;
-use versions::fault::StoreFault;
 use versions::store::VersionStore;
 
 mod calling;
@@ -29,21 +29,21 @@ pub const LAST_TICK: u32 = 4_294_967_294;
 pub struct Engine<S, V> {
     store: S,
     validator: V,
-    table: Table,
+    table: TransactionTable,
 }
 
 // `Idle` stands at each call: a fact of the step, and of no engine by itself.
 impl<S: VersionStore, V: Validator> Engine<S, V> {
     /// Whether an engine can be made of these.
     // The three travel together only as far as `make`, and the struct of them is what it makes.
-    pub fn check(last: u32, store: &S, validator: &V) -> Result<(), Fault>
-        ensures { result ≡ set_up_answer last (S.meaning store.now) (V.meaning validator.now) }
+    pub fn check(last: u32, store: &S, validator: &V) -> Result<(), SetUpFault>
+        ensures { result ≡ engine_check last (S.meaning store.now) (V.meaning validator.now) }
     {
         if last == 0 || last > LAST_TICK {
-            return Err(Fault::LastTick(last));
+            return Err(SetUpFault::LastTick { tick: last });
         }
         if store.keys() != validator.keys() || store.kept() > 0 || validator.latest() > 0 {
-            return Err(Fault::NotFresh);
+            return Err(SetUpFault::NotFresh);
         }
         Ok(())
     }
@@ -60,15 +60,15 @@ impl<S: VersionStore, V: Validator> Engine<S, V> {
         Engine {
             store,
             validator,
-            table: Table::new(last),
+            table: TransactionTable::new(last),
         }
     }
 
     /// Begins a transaction, and gives its handle.
     pub fn begin(&mut self, kind: Kind) -> Result<u32, Fault>
         ensures answer { result ≡ begin_answer (table_of self.old) }
-        ensures serves { ServesBare S.meaning V.meaning self.old self.new
-            (Begin kind) (told Began result) }
+        ensures refines { RefinesUnlent S.meaning V.meaning self.old self.new
+            (Begin kind) (answer_by Began result) }
         ensures refusal { OnErr result (self.new ≡ self.old) }
         ensures idle { Idle self.old self.new }
     {
@@ -83,49 +83,61 @@ impl<S: VersionStore, V: Validator> Engine<S, V> {
         count: u16,
         buffer: &mut [u64],
     ) -> Result<(), Fault>
-        ensures serves { Serves S.meaning V.meaning self.old self.new
-            (Read handle first count) buffer.old (told (λ _. ReadDone) result) buffer.new }
+        ensures refines { Refines S.meaning V.meaning self.old self.new
+            (Read handle first count) buffer.old (answer_by (λ _. ReadDone count) result) buffer.new }
         ensures refusal { OnErr result ((self.new ≡ self.old) × (buffer.new ≡ buffer.old)) }
         ensures idle { Idle self.old self.new }
     {
         let slot = self.place(handle)?;
         let keys = self.store.keys();
         let record = &mut self.table.records[slot];
-        record.take(Call::Read(handle, first, count), keys, buffer.len())?;
+        let call = Call::Read {
+            handle,
+            first,
+            count,
+        };
+        record.take(call, keys, buffer.len())?;
         fill(&self.store, record, Range { first, count }, buffer);
         Ok(())
     }
 
     /// Notes a value to be written to a key when the transaction is committed.
     pub fn write(&mut self, handle: u32, key: u16, value: u64) -> Result<(), Fault>
-        ensures serves { ServesBare S.meaning V.meaning self.old self.new
-            (Write handle key value) (told (λ _. Wrote) result) }
+        ensures refines { RefinesUnlent S.meaning V.meaning self.old self.new
+            (Write handle key value) (answer_by (λ _. Wrote) result) }
         ensures refusal { OnErr result (self.new ≡ self.old) }
         ensures idle { Idle self.old self.new }
     {
         let slot = self.place(handle)?;
         let keys = self.store.keys();
         let record = &mut self.table.records[slot];
-        record.take(Call::Write(handle, key, value), keys, 0)
+        record.take(Call::Write { handle, key, value }, keys, 0)?;
+        Ok(())
     }
 
     /// Ends a transaction, and nothing that it wrote is kept.
     pub fn abort(&mut self, handle: u32) -> Result<(), Fault>
-        ensures serves { ServesBare S.meaning V.meaning self.old self.new
-            (Abort handle) (told (λ _. Aborted) result) }
+        ensures refines { RefinesUnlent S.meaning V.meaning self.old self.new
+            (Abort handle) (answer_by (λ _. Aborted) result) }
         ensures refusal { OnErr result (self.new ≡ self.old) }
         ensures idle { Idle self.old self.new }
     {
-        self.table.release(handle)
+        let slot = self.place(handle)?;
+        let keys = self.store.keys();
+        self.table.records[slot].take(Call::Abort { handle }, keys, 0)?;
+        self.table.records[slot].state = State::Free;
+        Ok(())
     }
 
     /// The place of the transaction with this handle, if there is one.
     fn place(&self, handle: u32) -> Result<usize, Fault>
         ensures place { result ≡ ok_or (position (has_handle handle) self.now.table.records)
             (NoTransaction handle) }
-        ensures within { IfOk result (λ slot. slot < 16) }
+        ensures within { IfOk result (λ slot. slot < MAX_ACTIVE) }
     {
-        self.table.find(handle).ok_or(Fault::NoTransaction(handle))
+        self.table
+            .find(handle)
+            .ok_or(Fault::NoTransaction { handle })
     }
 }
 
@@ -133,8 +145,9 @@ impl<S: VersionStore, V: Validator> Engine<S, V> {
 fn fill<S: VersionStore>(store: &S, taker: &Record, range: Range, buffer: &mut [u64])
     requires count_in_bounds { range.count ≤ length buffer.old }
     requires count_bound { range.first + range.count < 2 ^ 16 }
+    requires in_store { range.first + range.count ≤ (S.meaning store.now).keys }
     ensures { buffer.new ≡ map (shown (S.meaning store.now) (view taker.now))
-        (keys_from range.first range.count) ++ drop range.count buffer.old }
+        (range_with_len range.first range.count) ++ drop range.count buffer.old }
 {
     // No `zip` with the keys: of what a loop writes through a `zip` no proof knows the values.
     let front = &mut buffer[..usize::from(range.count)];
@@ -146,20 +159,14 @@ fn fill<S: VersionStore>(store: &S, taker: &Record, range: Range, buffer: &mut [
 
 /// What the transaction reads at a key.
 fn value_at<S: VersionStore>(store: &S, taker: &Record, key: u16) -> u64
+    requires { key < (S.meaning store.now).keys }
     ensures { result ≡ shown (S.meaning store.now) (view taker.now) key }
 {
     match taker.state {
-        State::Updater => taker
-            .writes
-            .value(key)
-            .unwrap_or_else(|| value_in(store.newest(key))),
-        State::Free | State::Reader => value_in(store.as_of(key, taker.start)),
+        State::Updater => match taker.writes.value(key) {
+            Some(own) => own,
+            None => store.newest(key).unwrap().1,
+        },
+        State::Free | State::Reader => store.as_of(key, taker.moment()).unwrap().1,
     }
-}
-
-/// The value that a store answers. The key of a read is in the table, so the store does not refuse it.
-fn value_in(version: Result<(u32, u64), StoreFault>) -> u64
-    ensures { result ≡ value_in version }
-{
-    version.map_or(0, |(_, value)| value)
 }

@@ -3,5 +3,6 @@
 #![tactic(auto)]
 
 pub mod engine;
+pub mod fault;
 pub mod replay;
 pub mod slip;

@@ -5,7 +5,7 @@ ghost use Rattle.engine.specs.SetUp.{last_of};
 ghost use Rattle.engine.specs.Replays.{Replayed};
 
 use crate::engine::Engine;
-use ledger::{Answer, Call};
+use ledger::{Call, Done, Fault};
 use validation::validator::Validator;
 use versions::store::VersionStore;
 
@@ -15,7 +15,7 @@ use versions::store::VersionStore;
 pub struct Request {
     pub call: Call,
     pub room: usize,
-    pub answer: Answer,
+    pub answer: Result<Done, Fault>,
 }
 
 /// Makes one new engine and all the calls on it, in their order, and gives the engine back.

@@ -3,9 +3,9 @@ ghost use Rattle.std.specs.Prelude.{◌≡◌, ◌<◌, IfOk, OnErr};
 ghost use Rattle.ledger.specs.declared.Kind.{Kind};
 ghost use Rattle.ledger.specs.declared.Kind.TheVariants.{Reader, Updater};
 ghost use Rattle.ledger.specs.declared.Call.TheVariants.{Begin, Read, Write, Commit, Abort};
-ghost use Rattle.ledger.specs.declared.Answer.TheVariants.{Began, Read as ReadDone, Wrote, Ended, Aborted};
-ghost use Rattle.engine.specs.Parts.{handle_of};
-ghost use Rattle.engine.specs.Serves.{Serves, ServesBare, Idle, told};
+ghost use Rattle.ledger.specs.declared.Done.TheVariants.{Began, Read as ReadDone, Wrote, Ended, Aborted};
+ghost use Rattle.engine.specs.Parts.{slip_handle};
+ghost use Rattle.engine.specs.Steps.{Refines, RefinesUnlent, Idle, answer_by};
 
 use crate::engine::Engine;
 use ledger::{Fault, Kind, Verdict};
@@ -49,7 +49,7 @@ pub struct Slip<K> {
 
 impl<K> Drop for Slip<K> {
     fn drop(self)
-        requires { handle_of self ≡ 0 }
+        requires { slip_handle self ≡ 0 }
     {
         let Slip {
             handle: _,
@@ -60,13 +60,13 @@ impl<K> Drop for Slip<K> {
 
 impl<K> Slip<K> {
     pub fn handle(&self) -> u32
-        ensures { result ≡ handle_of self.now }
+        ensures { result ≡ slip_handle self.now }
     {
         self.handle
     }
 
     fn spent(self) -> u32
-        ensures { result ≡ handle_of self }
+        ensures { result ≡ slip_handle self }
     {
         let Slip { handle, leave: _ } = self;
         handle
@@ -83,10 +83,10 @@ pub struct Writing<'s, K: Leave> {
 impl<S: VersionStore, V: Validator> Engine<S, V> {
     /// Begins a transaction of the slip's kind.
     pub fn begin_slip<K: Leave>(&mut self) -> Result<Slip<K>, Fault>
-        ensures serves { ServesBare S.meaning V.meaning self.old self.new
-            (Begin K.KIND) (told (λ s. Began (handle_of s)) result) }
+        ensures refines { RefinesUnlent S.meaning V.meaning self.old self.new
+            (Begin K.KIND) (answer_by (λ s. Began (slip_handle s)) result) }
         ensures refusal { OnErr result (self.new ≡ self.old) }
-        ensures held { IfOk result (λ s. 0 < handle_of s) }
+        ensures held { IfOk result (λ s. 0 < slip_handle s) }
         ensures idle { Idle self.old self.new }
     {
         let handle = self.begin(K::KIND)?;
@@ -103,9 +103,9 @@ impl<S: VersionStore, V: Validator> Engine<S, V> {
         count: u16,
         buffer: &mut [u64],
     ) -> Result<(), Fault>
-        ensures serves { Serves S.meaning V.meaning self.old self.new
-            (Read (handle_of slip.now) first count)
-            buffer.old (told (λ _. ReadDone) result) buffer.new }
+        ensures refines { Refines S.meaning V.meaning self.old self.new
+            (Read (slip_handle slip.now) first count)
+            buffer.old (answer_by (λ _. ReadDone count) result) buffer.new }
         ensures refusal { OnErr result ((self.new ≡ self.old) × (buffer.new ≡ buffer.old)) }
         ensures idle { Idle self.old self.new }
     {
@@ -119,8 +119,8 @@ impl<S: VersionStore, V: Validator> Engine<S, V> {
         key: u16,
         value: u64,
     ) -> Result<(), Fault>
-        ensures serves { ServesBare S.meaning V.meaning self.old self.new
-            (Write (handle_of under.entry.slip.now) key value) (told (λ _. Wrote) result) }
+        ensures refines { RefinesUnlent S.meaning V.meaning self.old self.new
+            (Write (slip_handle under.entry.slip.now) key value) (answer_by (λ _. Wrote) result) }
         ensures refusal { OnErr result (self.new ≡ self.old) }
         ensures idle { Idle self.old self.new }
     {
@@ -129,8 +129,8 @@ impl<S: VersionStore, V: Validator> Engine<S, V> {
 
     /// Takes the slip, even if it refuses.
     pub fn commit_under<K>(&mut self, slip: Slip<K>) -> Result<Verdict, Fault>
-        ensures serves { ServesBare S.meaning V.meaning self.old self.new
-            (Commit (handle_of slip)) (told Ended result) }
+        ensures refines { RefinesUnlent S.meaning V.meaning self.old self.new
+            (Commit (slip_handle slip)) (answer_by Ended result) }
         ensures refusal { OnErr result (self.new ≡ self.old) }
         ensures idle { Idle self.old self.new }
     {
@@ -139,8 +139,8 @@ impl<S: VersionStore, V: Validator> Engine<S, V> {
 
     /// Takes the slip, even if it refuses.
     pub fn abort_under<K>(&mut self, slip: Slip<K>) -> Result<(), Fault>
-        ensures serves { ServesBare S.meaning V.meaning self.old self.new
-            (Abort (handle_of slip)) (told (λ _. Aborted) result) }
+        ensures refines { RefinesUnlent S.meaning V.meaning self.old self.new
+            (Abort (slip_handle slip)) (answer_by (λ _. Aborted) result) }
         ensures refusal { OnErr result (self.new ≡ self.old) }
         ensures idle { Idle self.old self.new }
     {

@@ -2,7 +2,7 @@ use crate::calls::{ENTRY, VERSION};
 use chain::cell::Cell;
 use chain::store::ChainStore;
 use engine::replay::{Request, replay};
-use ledger::{Answer, Call, Fault, Kind, Verdict};
+use ledger::{Call, Done, Fault, Kind, Verdict};
 use std::process::Abort;
 use validation::recent::RecentList;
 use validation::table::StampTable;
@@ -14,7 +14,7 @@ fn ask(call: Call, room: usize) -> Request {
     Request {
         call,
         room,
-        answer: Answer::Aborted,
+        answer: Ok(Done::Aborted),
     }
 }
 
@@ -23,35 +23,77 @@ fn ask(call: Call, room: usize) -> Request {
 fn report<S: VersionStore + Drop, V: Validator + Drop>(rt: &impl Abort, store: S, validator: V) {
     let mut requests = [
         ask(Call::Begin(Kind::Updater), 0),
-        ask(Call::Write(1, 5, 54), 0),
+        ask(
+            Call::Write {
+                handle: 1,
+                key: 5,
+                value: 54,
+            },
+            0,
+        ),
         ask(Call::Begin(Kind::Reader), 0),
         ask(Call::Begin(Kind::Updater), 0),
-        ask(Call::Read(3, 5, 1), 2),
-        ask(Call::Commit(1), 0),
-        ask(Call::Read(2, 5, 2), 2),
-        ask(Call::Commit(3), 0),
+        ask(
+            Call::Read {
+                handle: 3,
+                first: 5,
+                count: 1,
+            },
+            2,
+        ),
+        ask(Call::Commit { handle: 1 }, 0),
+        ask(
+            Call::Read {
+                handle: 2,
+                first: 5,
+                count: 2,
+            },
+            2,
+        ),
+        ask(Call::Commit { handle: 3 }, 0),
         ask(Call::Reclaim, 0),
-        ask(Call::Commit(2), 0),
-        ask(Call::Read(2, 64, 0), 2),
+        ask(Call::Commit { handle: 2 }, 0),
+        ask(
+            Call::Read {
+                handle: 2,
+                first: 64,
+                count: 0,
+            },
+            2,
+        ),
         ask(Call::Begin(Kind::Reader), 0),
-        ask(Call::Read(5, 5, 1), 2),
-        ask(Call::Read(5, 64, 1), 2),
+        ask(
+            Call::Read {
+                handle: 5,
+                first: 5,
+                count: 1,
+            },
+            2,
+        ),
+        ask(
+            Call::Read {
+                handle: 5,
+                first: 64,
+                count: 1,
+            },
+            2,
+        ),
     ];
     let answers = [
-        Answer::Began(1),
-        Answer::Wrote,
-        Answer::Began(2),
-        Answer::Began(3),
-        Answer::Read,
-        Answer::Ended(Verdict::Committed(4)),
-        Answer::Read,
-        Answer::Ended(Verdict::Restart(5, 4)),
-        Answer::Reclaimed(0),
-        Answer::Ended(Verdict::Closed),
-        Answer::Refused(Fault::NoTransaction(2)),
-        Answer::Began(5),
-        Answer::Read,
-        Answer::Refused(Fault::KeyOutside(64)),
+        Ok(Done::Began { handle: 1 }),
+        Ok(Done::Wrote),
+        Ok(Done::Began { handle: 2 }),
+        Ok(Done::Began { handle: 3 }),
+        Ok(Done::Read { count: 1 }),
+        Ok(Done::Ended(Verdict::Committed { tick: 4 })),
+        Ok(Done::Read { count: 2 }),
+        Ok(Done::Ended(Verdict::Restart { key: 5, stamp: 4 })),
+        Ok(Done::Reclaimed { count: 0 }),
+        Ok(Done::Ended(Verdict::Closed)),
+        Err(Fault::NoTransaction { handle: 2 }),
+        Ok(Done::Began { handle: 5 }),
+        Ok(Done::Read { count: 1 }),
+        Err(Fault::KeyOutside { key: 64 }),
     ];
     let mut buffers = [9; 10];
     let _ = replay(4_294_967_294, store, validator, &mut requests, &mut buffers);
@@ -63,45 +105,87 @@ fn report<S: VersionStore + Drop, V: Validator + Drop>(rt: &impl Abort, store: S
 fn handicaps<S: VersionStore + Drop, V: Validator + Drop>(rt: &impl Abort, store: S, validator: V) {
     let mut requests = [
         ask(Call::Begin(Kind::Updater), 0),
-        ask(Call::Write(1, 0, 21), 0),
-        ask(Call::Commit(1), 0),
+        ask(
+            Call::Write {
+                handle: 1,
+                key: 0,
+                value: 21,
+            },
+            0,
+        ),
+        ask(Call::Commit { handle: 1 }, 0),
         ask(Call::Begin(Kind::Updater), 0),
-        ask(Call::Write(3, 0, 22), 0),
-        ask(Call::Commit(3), 0),
+        ask(
+            Call::Write {
+                handle: 3,
+                key: 0,
+                value: 22,
+            },
+            0,
+        ),
+        ask(Call::Commit { handle: 3 }, 0),
         ask(Call::Begin(Kind::Updater), 0),
-        ask(Call::Write(5, 0, 23), 0),
-        ask(Call::Commit(5), 0),
+        ask(
+            Call::Write {
+                handle: 5,
+                key: 0,
+                value: 23,
+            },
+            0,
+        ),
+        ask(Call::Commit { handle: 5 }, 0),
         ask(Call::Begin(Kind::Reader), 0),
         ask(Call::Begin(Kind::Updater), 0),
-        ask(Call::Write(8, 0, 24), 0),
-        ask(Call::Commit(8), 0),
+        ask(
+            Call::Write {
+                handle: 8,
+                key: 0,
+                value: 24,
+            },
+            0,
+        ),
+        ask(Call::Commit { handle: 8 }, 0),
         ask(Call::Begin(Kind::Updater), 0),
-        ask(Call::Write(10, 0, 25), 0),
-        ask(Call::Commit(10), 0),
-        ask(Call::Read(7, 0, 1), 1),
-        ask(Call::Abort(7), 0),
+        ask(
+            Call::Write {
+                handle: 10,
+                key: 0,
+                value: 25,
+            },
+            0,
+        ),
+        ask(Call::Commit { handle: 10 }, 0),
+        ask(
+            Call::Read {
+                handle: 7,
+                first: 0,
+                count: 1,
+            },
+            1,
+        ),
+        ask(Call::Abort { handle: 7 }, 0),
         ask(Call::Reclaim, 0),
     ];
     let answers = [
-        Answer::Began(1),
-        Answer::Wrote,
-        Answer::Ended(Verdict::Committed(2)),
-        Answer::Began(3),
-        Answer::Wrote,
-        Answer::Ended(Verdict::Committed(4)),
-        Answer::Began(5),
-        Answer::Wrote,
-        Answer::Ended(Verdict::Committed(6)),
-        Answer::Began(7),
-        Answer::Began(8),
-        Answer::Wrote,
-        Answer::Ended(Verdict::Committed(9)),
-        Answer::Began(10),
-        Answer::Wrote,
-        Answer::Ended(Verdict::Full(1, 0)),
-        Answer::Read,
-        Answer::Aborted,
-        Answer::Reclaimed(1),
+        Ok(Done::Began { handle: 1 }),
+        Ok(Done::Wrote),
+        Ok(Done::Ended(Verdict::Committed { tick: 2 })),
+        Ok(Done::Began { handle: 3 }),
+        Ok(Done::Wrote),
+        Ok(Done::Ended(Verdict::Committed { tick: 4 })),
+        Ok(Done::Began { handle: 5 }),
+        Ok(Done::Wrote),
+        Ok(Done::Ended(Verdict::Committed { tick: 6 })),
+        Ok(Done::Began { handle: 7 }),
+        Ok(Done::Began { handle: 8 }),
+        Ok(Done::Wrote),
+        Ok(Done::Ended(Verdict::Committed { tick: 9 })),
+        Ok(Done::Began { handle: 10 }),
+        Ok(Done::Wrote),
+        Ok(Done::Ended(Verdict::Full { writes: 1, free: 0 })),
+        Ok(Done::Read { count: 1 }),
+        Ok(Done::Aborted),
+        Ok(Done::Reclaimed { count: 1 }),
     ];
     let mut buffers = [9; 1];
     let _ = replay(100, store, validator, &mut requests, &mut buffers);

@@ -1,5 +1,5 @@
 use engine::engine::Engine;
-use ledger::{Answer, Call, Kind};
+use ledger::{Call, Done, Fault, Kind};
 use std::process::Abort;
 use validation::recent::Entry;
 use validation::validator::Validator;
@@ -19,7 +19,7 @@ pub fn says<S: VersionStore, V: Validator>(
     rt: &impl Abort,
     engine: &mut Engine<S, V>,
     call: Call,
-    expected: Answer,
+    expected: Result<Done, Fault>,
 ) {
     assert_eq!(rt; engine.call(call, &mut []), expected);
 }
@@ -31,7 +31,7 @@ pub fn begins<S: VersionStore, V: Validator>(
     kind: Kind,
     handle: u32,
 ) {
-    says(rt, engine, Call::Begin(kind), Answer::Began(handle));
+    says(rt, engine, Call::Begin(kind), Ok(Done::Began { handle }));
 }
 
 /// Reads one key, and checks its value; the place behind it is left.
@@ -43,7 +43,14 @@ pub fn sees<S: VersionStore, V: Validator>(
     value: u64,
 ) {
     let mut buffer = [9, 9];
-    let answer = engine.call(Call::Read(handle, key, 1), &mut buffer);
-    assert_eq!(rt; answer, Answer::Read);
+    let answer = engine.call(
+        Call::Read {
+            handle,
+            first: key,
+            count: 1,
+        },
+        &mut buffer,
+    );
+    assert_eq!(rt; answer, Ok(Done::Read { count: 1 }));
     assert_eq!(rt; buffer, [value, 9]);
 }

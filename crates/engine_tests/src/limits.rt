@@ -1,6 +1,9 @@
 use crate::calls::{ENTRY, VERSION, begins, says, sees};
 use engine::engine::Engine;
-use ledger::{Answer, Call, Fault, Kind, Verdict};
+use engine::fault::SetUpFault;
+use ledger::{Call, Done, Fault, Kind, Verdict};
+use refusals::{Refusal, Report};
+use std::fmt::Debug;
 use std::process::Abort;
 use validation::recent::RecentList;
 use validation::table::StampTable;
@@ -17,21 +20,26 @@ fn seventeen<S: VersionStore + Drop, V: Validator + Drop>(rt: &impl Abort, store
         rt,
         &mut engine,
         Call::Begin(Kind::Reader),
-        Answer::Refused(Fault::TooManyActive),
+        Err(Fault::TooManyActive),
     );
-    says(rt, &mut engine, Call::Abort(3), Answer::Aborted);
     says(
         rt,
         &mut engine,
-        Call::Abort(3),
-        Answer::Refused(Fault::NoTransaction(3)),
+        Call::Abort { handle: 3 },
+        Ok(Done::Aborted),
+    );
+    says(
+        rt,
+        &mut engine,
+        Call::Abort { handle: 3 },
+        Err(Fault::NoTransaction { handle: 3 }),
     );
     begins(rt, &mut engine, Kind::Reader, 17);
     says(
         rt,
         &mut engine,
         Call::Begin(Kind::Reader),
-        Answer::Refused(Fault::TooManyActive),
+        Err(Fault::TooManyActive),
     );
 }
 
@@ -54,28 +62,58 @@ fn ranges<S: VersionStore + Drop, V: Validator + Drop>(rt: &impl Abort, store: S
     }
     let mut buffer = [9, 9];
     let full = engine.read(1, 32, 1, &mut buffer);
-    refuses(rt, full, Fault::ReadListFull(1), 13, 1);
+    refuses(rt, full, Fault::ReadListFull { handle: 1 }, 13, 1);
     assert_eq!(rt; buffer[0], 9);
     sees(rt, &mut engine, 1, 0, 0);
-    says(rt, &mut engine, Call::Read(1, 40, 0), Answer::Read);
     says(
         rt,
         &mut engine,
-        Call::Read(1, 40, 1),
-        Answer::Refused(Fault::KeyOutside(40)),
+        Call::Read {
+            handle: 1,
+            first: 40,
+            count: 0,
+        },
+        Ok(Done::Read { count: 0 }),
     );
     says(
         rt,
         &mut engine,
-        Call::Read(1, 1, 1),
-        Answer::Refused(Fault::ShortBuffer(0)),
+        Call::Read {
+            handle: 1,
+            first: 40,
+            count: 1,
+        },
+        Err(Fault::KeyOutside { key: 40 }),
+    );
+    says(
+        rt,
+        &mut engine,
+        Call::Read {
+            handle: 1,
+            first: 1,
+            count: 1,
+        },
+        Err(Fault::ShortBuffer { length: 0 }),
     );
 }
 
 /// Checks that an answer refuses with this fault, and the number and place that it is reported by.
-fn refuses(rt: &impl Abort, answer: Result<(), Fault>, fault: Fault, number: u8, place: u64) {
+fn refuses<F: Refusal + Debug + PartialEq + Copy + Drop>(
+    rt: &impl Abort,
+    answer: Result<(), F>,
+    fault: F,
+    number: u8,
+    place: u64,
+) {
     assert_eq!(rt; answer, Err(fault));
-    assert_eq!(rt; (fault.number(), fault.place()), (number, place));
+    assert_eq!(rt;
+        fault.report(),
+        Report {
+            layer: 3,
+            number,
+            place
+        }
+    );
 }
 
 #[test]
@@ -96,31 +134,51 @@ fn keys<S: VersionStore + Drop, V: Validator + Drop>(rt: &impl Abort, store: S, 
         says(
             rt,
             &mut engine,
-            Call::Write(1, key, u64::from(key)),
-            Answer::Wrote,
+            Call::Write {
+                handle: 1,
+                key,
+                value: u64::from(key),
+            },
+            Ok(Done::Wrote),
         );
     }
     says(
         rt,
         &mut engine,
-        Call::Write(1, 32, 5),
-        Answer::Refused(Fault::WriteListFull(1)),
+        Call::Write {
+            handle: 1,
+            key: 32,
+            value: 5,
+        },
+        Err(Fault::WriteListFull { handle: 1 }),
     );
-    says(rt, &mut engine, Call::Write(1, 0, 70), Answer::Wrote);
+    says(
+        rt,
+        &mut engine,
+        Call::Write {
+            handle: 1,
+            key: 0,
+            value: 70,
+        },
+        Ok(Done::Wrote),
+    );
     sees(rt, &mut engine, 1, 0, 70);
     sees(rt, &mut engine, 1, 31, 31);
     sees(rt, &mut engine, 1, 32, 0);
     says(
         rt,
         &mut engine,
-        Call::Commit(1),
-        Answer::Ended(Verdict::Full(32, 8)),
+        Call::Commit { handle: 1 },
+        Ok(Done::Ended(Verdict::Full {
+            writes: 32,
+            free: 8,
+        })),
     );
     says(
         rt,
         &mut engine,
-        Call::Commit(1),
-        Answer::Refused(Fault::NoTransaction(1)),
+        Call::Commit { handle: 1 },
+        Err(Fault::NoTransaction { handle: 1 }),
     );
 }
 
@@ -143,33 +201,46 @@ fn ticks<S: VersionStore + Drop, V: Validator + Drop>(rt: &impl Abort, store: S,
         rt,
         &mut engine,
         Call::Begin(Kind::Reader),
-        Answer::Refused(Fault::ClockSpent(2)),
+        Err(Fault::ClockSpent { last: 2 }),
     );
     says(
         rt,
         &mut engine,
-        Call::Write(2, 0, 5),
-        Answer::Refused(Fault::ReaderWrites(2)),
+        Call::Write {
+            handle: 2,
+            key: 0,
+            value: 5,
+        },
+        Err(Fault::ReaderWrites { handle: 2 }),
     );
-    says(rt, &mut engine, Call::Write(1, 0, 5), Answer::Wrote);
     says(
         rt,
         &mut engine,
-        Call::Commit(1),
-        Answer::Ended(Verdict::Spent),
+        Call::Write {
+            handle: 1,
+            key: 0,
+            value: 5,
+        },
+        Ok(Done::Wrote),
+    );
+    says(
+        rt,
+        &mut engine,
+        Call::Commit { handle: 1 },
+        Ok(Done::Ended(Verdict::Spent)),
     );
     sees(rt, &mut engine, 2, 0, 0);
     says(
         rt,
         &mut engine,
-        Call::Commit(2),
-        Answer::Ended(Verdict::Closed),
+        Call::Commit { handle: 2 },
+        Ok(Done::Ended(Verdict::Closed)),
     );
     says(
         rt,
         &mut engine,
         Call::Begin(Kind::Reader),
-        Answer::Refused(Fault::ClockSpent(2)),
+        Err(Fault::ClockSpent { last: 2 }),
     );
 }
 
@@ -190,7 +261,7 @@ fn idles<S: VersionStore + Drop, V: Validator + Drop>(
     last: u32,
     store: S,
     validator: V,
-    fault: Fault,
+    fault: SetUpFault,
     number: u8,
     place: u64,
 ) {
@@ -201,15 +272,24 @@ fn idles<S: VersionStore + Drop, V: Validator + Drop>(
         rt,
         &mut engine,
         Call::Begin(Kind::Updater),
-        Answer::Refused(Fault::ClockSpent(0)),
+        Err(Fault::ClockSpent { last: 0 }),
     );
     says(
         rt,
         &mut engine,
-        Call::Read(0, 0, 0),
-        Answer::Refused(Fault::NoTransaction(0)),
+        Call::Read {
+            handle: 0,
+            first: 0,
+            count: 0,
+        },
+        Err(Fault::NoTransaction { handle: 0 }),
     );
-    says(rt, &mut engine, Call::Reclaim, Answer::Reclaimed(0));
+    says(
+        rt,
+        &mut engine,
+        Call::Reclaim,
+        Ok(Done::Reclaimed { count: 0 }),
+    );
 }
 
 #[test]
@@ -221,7 +301,7 @@ fn without_a_last_tick_there_is_no_engine(rt: HostRuntime) {
         0,
         LogStore::make(40, &mut cells),
         StampTable::make(40, 1, &mut stamps),
-        Fault::LastTick(0),
+        SetUpFault::LastTick { tick: 0 },
         2,
         0,
     );
@@ -236,7 +316,7 @@ fn store_and_validator_have_the_same_keys(rt: HostRuntime) {
         9,
         LogStore::make(40, &mut cells),
         StampTable::make(41, 1, &mut stamps),
-        Fault::NotFresh,
+        SetUpFault::NotFresh,
         8,
         0,
     );
@@ -253,7 +333,7 @@ fn an_engine_begins_with_an_empty_store(rt: HostRuntime) {
         9,
         store,
         StampTable::make(40, 1, &mut stamps),
-        Fault::NotFresh,
+        SetUpFault::NotFresh,
         8,
         0,
     );
@@ -270,7 +350,7 @@ fn an_engine_begins_without_a_stamp(rt: HostRuntime) {
         9,
         LogStore::make(40, &mut cells),
         validator,
-        Fault::NotFresh,
+        SetUpFault::NotFresh,
         8,
         0,
     );

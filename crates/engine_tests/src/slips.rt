@@ -2,6 +2,7 @@ use crate::calls::{ENTRY, VERSION};
 use engine::engine::Engine;
 use engine::slip::{Reading, Updating, Writing};
 use ledger::{Fault, Verdict};
+use refusals::Refusal;
 use std::process::Abort;
 use validation::recent::RecentList;
 use validation::validator::Validator;
@@ -45,13 +46,19 @@ fn under_slips<S: VersionStore + Drop, V: Validator + Drop>(
     validator: V,
 ) {
     let mut engine = Engine::make(100, store, validator);
-    assert_eq!(rt; post(&mut engine, 2, 54), Ok((0, Verdict::Committed(2))));
-    assert_eq!(rt; post(&mut engine, 2, 55), Ok((54, Verdict::Committed(4))));
+    assert_eq!(rt;
+        post(&mut engine, 2, 54),
+        Ok((0, Verdict::Committed { tick: 2 }))
+    );
+    assert_eq!(rt;
+        post(&mut engine, 2, 55),
+        Ok((54, Verdict::Committed { tick: 4 }))
+    );
     // A slip is gone even if the call that takes it is refused.
     let twice = read_and_end_twice(&mut engine, 2);
-    assert_eq!(rt; twice, Ok((55, Err(Fault::NoTransaction(5)))));
-    assert_eq!(rt; Fault::NoTransaction(5).place(), 5);
-    assert_eq!(rt; post(&mut engine, 8, 1), Err(Fault::KeyOutside(8)));
+    assert_eq!(rt; twice, Ok((55, Err(Fault::NoTransaction { handle: 5 }))));
+    assert_eq!(rt; Fault::NoTransaction { handle: 5 }.report().place, 5);
+    assert_eq!(rt; post(&mut engine, 8, 1), Err(Fault::KeyOutside { key: 8 }));
     assert_eq!(rt; engine.reclaim(), 1);
 }
 

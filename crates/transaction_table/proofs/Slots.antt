@@ -4,10 +4,12 @@ use Rattle.std.proofs.lemmas.Bool.{ne_eqb, eq-eqb, eqb-true, cond_both, and_part
 use Rattle.std.proofs.lemmas.Iterator.Adapters.{position_from-zero}
 use Rattle.std.proofs.lemmas.Option.{get_or_from_slice_get, none-some}
 use Rattle.std.specs.List.{AllByRecursion, slice_get, fold, position, position_from}
-use Rattle.ledger.specs.Calls.{fresh, without, changed, is_some}
+use Rattle.ledger.specs.Calls.{fresh, without, changed}
+use Rattle.std.specs.Option.{is_some}
 use Rattle.transaction_table.specs.Shuffle.{Shuffle, keep, swap, join}
 use Rattle.ledger.specs.Orderly.{Apart}
 use Rattle.transaction_table.proofs.Shuffles.{shuffle_refl}
+use Rattle.ledger.specs.declared.TheConstants.{MAX_ACTIVE}
 use Rattle.ledger.specs.declared.Kind.{Kind}
 use Rattle.ledger.specs.declared.Kind.TheVariants.{Reader as Reads, Updater as Updates}
 use Rattle.ledger.specs.Ledger.{Transaction, found, least_start}
@@ -15,7 +17,7 @@ use Rattle.transaction_table.specs.declared.record.State.{State}
 use Rattle.transaction_table.specs.declared.record.State.TheVariants.{Free, Reader, Updater}
 use Rattle.transaction_table.specs.declared.record.Record.{Record}
 use Rattle.transaction_table.specs.View.{taken, view, active_of}
-use Rattle.transaction_table.specs.Places.{of_kind, holds_kind, is_free, has_handle, first_changed, freed, free_record, new_record}
+use Rattle.transaction_table.specs.Places.{of_kind, holds_kind, is_free, has_handle, free_record, new_record}
 use Rattle.transaction_table.proofs.Searches.{passing, nowhere}
 
 -- the record at i is taken, and has this handle
@@ -169,8 +171,8 @@ busy_from (r ∷ rs) n e = go (taken r.state) e (busy_from rs (n + 1))
     go false q later = absurd (none-some n (sym q))
 
 -- no record is free
-pub crowded : (rs : List Record) → length rs ≡ 16 → None ≡ position is_free rs → leb 16 (length (active_of rs)) ≡ true
-crowded rs n e = le-leb _ _ (omega (arith, n, busy_from rs 0 (nowhere is_free rs e)))
+pub none_vacant : (rs : List Record) → length rs ≡ MAX_ACTIVE → None ≡ position is_free rs → leb MAX_ACTIVE (length (active_of rs)) ≡ true
+none_vacant rs n e = le-leb _ _ (omega (arith, n, busy_from rs 0 (nowhere is_free rs e)))
 
 -- where the search for a free record ended
 pub vacant_at : (rs : List Record) (i : ℕ) → Some i ≡ position is_free rs → (at : Record) × (slice_get rs i ≡ Some at) × (taken at.state ≡ false)
@@ -181,22 +183,31 @@ vacant_at rs i e = let s = passing is_free rs i free_record e in (s.at, s.reads,
     free false q = refl
 
 -- a record is free
-pub roomy : (rs : List Record) (i : ℕ) → length rs ≡ 16 → Some i ≡ position is_free rs → leb 16 (length (active_of rs)) ≡ false
+pub roomy : (rs : List Record) (i : ℕ) → length rs ≡ MAX_ACTIVE → Some i ≡ position is_free rs → leb MAX_ACTIVE (length (active_of rs)) ≡ false
 roomy rs i n e = let v = vacant_at rs i e in lt-leb _ _ (omega (arith, n, slots_few rs i v.0 v.1 v.2))
 
--- the record with the handle is freed
-pub active_freed : (rs : List Record) (h : ℕ) → Apart (active_of rs) → active_of (first_changed (has_handle h) freed rs) ≡ without (active_of rs) h
-active_freed [] h a = refl
-active_freed (r ∷ rs) h a = go (taken r.state) (eqb r.start h) refl refl a (active_freed rs h)
+-- a freed record: its transaction is gone
+pub slots_freed : (rs : List Record) (i h : ℕ) (at r : Record) → slice_get rs i ≡ Some at → taken at.state ≡ true → at.start ≡ h → taken r.state ≡ false → Apart (active_of rs) → active_of (set rs i r) ≡ without (active_of rs) h
+slots_freed [] i h at r e on has off a = refl
+slots_freed (u ∷ rs) zero h at r e on has off a =
+    let same : u ≡ at = cc in
+    let t = active_taken u rs (ap (λ x. taken x.state) same ∙ on) in
+    let starts : u.start ≡ h = ap (λ x. x.start) same ∙ has in
+    let b = subst Apart t a in
+    rw (active_free r rs off, t, eq-eqb u.start h starts) (sym (kept_apart (active_of rs) h (rw starts at b.0)))
+slots_freed (u ∷ rs) (suc i) h at r e on has off a = go (taken u.state) a (slots_freed rs i h at r e on has off)
   where
-    us : List Record
-    us = first_changed (has_handle h) freed rs
+    go : (b : Bool) → Apart (cond b (view u ∷ active_of rs) (active_of rs)) → (Apart (active_of rs) → active_of (set rs i r) ≡ without (active_of rs) h) → cond b (view u ∷ active_of (set rs i r)) (active_of (set rs i r)) ≡ without (cond b (view u ∷ active_of rs) (active_of rs)) h
+    go true q later =
+        let ne : u.start ≡ h → ⊥ = λ s. slots_at (λ x. x.start ≡ u.start → ⊥) rs i at e on q.0 (has ∙ sym s) in
+        rw (ne_eqb u.start h ne) (ap (λ us. view u ∷ us) (later q.1))
+    go false q later = later q
 
-    go : (b e : Bool) → taken r.state ≡ b → eqb r.start h ≡ e → Apart (cond b (view r ∷ active_of rs) (active_of rs)) → (Apart (active_of rs) → active_of us ≡ without (active_of rs) h) → active_of (cond (e && b) (freed r ∷ rs) (r ∷ us)) ≡ without (cond b (view r ∷ active_of rs) (active_of rs)) h
-    go true true on is q later = rw is (sym (kept_apart (active_of rs) h (subst (λ k. AllByRecursion (λ u. u.start ≡ k → ⊥) (active_of rs)) (eqb-true r.start h is) q.0)))
-    go true false on is q later = rw (on, is) (ap (λ ts. view r ∷ ts) (later q.1))
-    go false true on is q later = rw on (later q)
-    go false false on is q later = rw on (later q)
+-- the record that was put at i is read there
+pub slice_get-set : (rs : List Record) (i : ℕ) (r at : Record) → slice_get rs i ≡ Some at → slice_get (set rs i r) i ≡ Some r
+slice_get-set [] i r at e = cc
+slice_get-set (u ∷ rs) zero r at e = refl
+slice_get-set (u ∷ rs) (suc i) r at e = slice_get-set rs i r at e
 
 least_min : (p : Kind → Bool) (n x : ℕ) (ts : List Transaction) → least_start p (min n x) ts ≡ min x (least_start p n ts)
 least_min p n x [] = omega arith

@@ -7,15 +7,15 @@ use Rattle.std.proofs.lemmas.Option.{none-some}
 use Rattle.std.proofs.lemmas.List.Quantifiers.{position-Some}
 use Rattle.ledger.specs.declared.Write.{Write}
 use Rattle.ledger.specs.Ledger.{own_write, written}
-use Rattle.ledger.specs.Calls.{is_some}
-use Rattle.transaction_table.specs.Notes.{writes_to}
+use Rattle.std.specs.Option.{is_some}
+use Rattle.transaction_table.specs.Lists.{writes_to}
 use Rattle.transaction_table.proofs.Searches.{nowhere}
 
 pub written_push : (ws : List Write) (k v : ℕ) → own_write k ws ≡ None → written ws k v ≡ ws ++ (record { key = k; value = v } ∷ [])
 written_push [] k v e = refl
 written_push (u ∷ ws) k v e = go (eqb u.key k) e (written_push ws k v)
   where
-    go : (b : Bool) → cond b (Some u.value) (own_write k ws) ≡ None → (own_write k ws ≡ None → written ws k v ≡ ws ++ (record { key = k; value = v } ∷ [])) → cond b (record { key = k; value = v } ∷ ws) (u ∷ written ws k v) ≡ u ∷ (ws ++ (record { key = k; value = v } ∷ []))
+    go : (b : Bool) → option_map (λ (v : Write). v.value) (cond b (Some u) (find (λ v. eqb v.key k) ws)) ≡ None → (own_write k ws ≡ None → written ws k v ≡ ws ++ (record { key = k; value = v } ∷ [])) → cond b (record { key = k; value = v } ∷ ws) (u ∷ written ws k v) ≡ u ∷ (ws ++ (record { key = k; value = v } ∷ []))
     go true q later = cc
     go false q later = ap (λ us. u ∷ us) (later q)
 
@@ -34,25 +34,16 @@ pub stands : (ws : List Write) (k i : ℕ) → Some i ≡ position (writes_to k)
 stands ws k i e =
     let d : Write = record { key = 0; value = 0 } in
     let h = position-Some (writes_to k) ws i d (sym e) in
-    record { within = h.0; there = ap is_some (found_at (own_write k) (writes_to k) (λ w. Some w.value) None refl (λ _ _. refl) ws i d h.0 h.2 h.1); over = λ x. written_at ws i k x d h.0 h.2 h.1 }
+    record { within = h.0; there = ap (λ o. is_some (option_map (λ (w : Write). w.value) o)) (found_at (find (writes_to k)) (writes_to k) Some None refl (λ _ _. refl) ws i d h.0 h.2 h.1); over = λ x. written_at ws i k x d h.0 h.2 h.1 }
 
 unwritten_from : (ws : List Write) (k n : ℕ) → position_from (writes_to k) n ws ≡ None → own_write k ws ≡ None
 unwritten_from [] k n e = refl
 unwritten_from (w ∷ ws) k n e = go (eqb w.key k) e (unwritten_from ws k (n + 1))
   where
-    go : (b : Bool) → cond b (Some n) (position_from (writes_to k) (n + 1) ws) ≡ None → (position_from (writes_to k) (n + 1) ws ≡ None → own_write k ws ≡ None) → cond b (Some w.value) (own_write k ws) ≡ None
+    go : (b : Bool) → cond b (Some n) (position_from (writes_to k) (n + 1) ws) ≡ None → (position_from (writes_to k) (n + 1) ws ≡ None → own_write k ws ≡ None) → option_map (λ (v : Write). v.value) (cond b (Some w) (find (λ v. eqb v.key k) ws)) ≡ None
     go true q later = absurd (none-some n (sym q))
     go false q later = later q
 
 -- no write is to the key
 pub unwritten : (ws : List Write) (k : ℕ) → None ≡ position (writes_to k) ws → own_write k ws ≡ None
 unwritten ws k e = unwritten_from ws k 0 (nowhere (writes_to k) ws e)
-
--- the value of the first write to the key
-pub value_found : (k : ℕ) (ws : List Write) → own_write k ws ≡ option_map (λ w. w.value) (find (λ w. eqb w.key k) ws)
-value_found k [] = refl
-value_found k (w ∷ ws) = go (eqb w.key k) (value_found k ws)
-  where
-    go : (b : Bool) → own_write k ws ≡ option_map (λ w. w.value) (find (λ w. eqb w.key k) ws) → cond b (Some w.value) (own_write k ws) ≡ option_map (λ w. w.value) (cond b (Some w) (find (λ w. eqb w.key k) ws))
-    go true e = refl
-    go false e = e

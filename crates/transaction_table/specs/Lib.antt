@@ -1,5 +1,6 @@
 pub mod Bounded
 pub mod View
-pub mod Notes
+pub mod Lists
+pub mod Next
 pub mod Places
 pub mod Shuffle

@@ -1,16 +1,17 @@
 -- Which record a transaction is in, and what a begin and an end make of the table.
-use Rattle.std.specs.Prelude.{ℕ, ◌+◌, Bool, if◌then◌else◌, not, ◌&&◌, List, [], ◌∷◌, length, replicate, Ok, Err, Result, ◌==◌, nat_le}
+use Rattle.std.specs.Prelude.{ℕ, ◌+◌, Bool, if◌then◌else◌, not, ◌&&◌, List, [], ◌∷◌, length, replicate, Ok, Err, Result, ◌==◌}
+use Rattle.std.specs.Result.{result_map_both}
 use Rattle.ledger.specs.declared.Fault.{Fault}
-use Rattle.ledger.specs.declared.Fault.TheVariants.{NoTransaction, TooManyActive, ClockSpent}
 use Rattle.ledger.specs.declared.Kind.{Kind}
 use Rattle.ledger.specs.declared.Kind.TheVariants.{Reader, Updater}
-use Rattle.ledger.specs.Ledger.{Transaction, found, is_reader}
-use Rattle.ledger.specs.Calls.{fresh, is_some}
+use Rattle.ledger.specs.declared.TheConstants.{MAX_ACTIVE}
+use Rattle.ledger.specs.Ledger.{Transaction, handle_of, is_reader}
+use Rattle.ledger.specs.Calls.{fresh, begin_check}
 use Rattle.transaction_table.specs.declared.record.State.{State}
 use Rattle.transaction_table.specs.declared.record.State.TheVariants.{Free, Reader as Reads, Updater as Updates}
 use Rattle.transaction_table.specs.declared.record.Record.{Record}
-use Rattle.transaction_table.specs.declared.table.Table.{Table}
-use Rattle.transaction_table.specs.View.{taken, kind_of, active_of, no_ranges, no_writes}
+use Rattle.transaction_table.specs.declared.table.TransactionTable.{TransactionTable}
+use Rattle.transaction_table.specs.View.{view, taken, kind_of, active_of, no_ranges, no_writes}
 
 -- Records
 
@@ -19,7 +20,7 @@ is_free r = not (taken r.state)
 
 -- a transaction with this handle is in the record
 abbrev pub has_handle : ℕ → Record → Bool
-has_handle h r = r.start == h && taken r.state
+has_handle h r = handle_of (view r) == h && taken r.state
 
 -- the first element that passes p is what f makes of it
 abbrev pub first_changed : {X : Type 0} → (X → Bool) → (X → X) → List X → List X
@@ -45,35 +46,20 @@ new_record start kind = record { state = state_of kind; start = start; reads = n
 abbrev pub free_record : Record
 free_record = record { state = Free; start = 0; reads = no_ranges; writes = no_writes }
 
--- what the record's transaction leaves in it
-abbrev pub freed : Record → Record
-freed r = record { state = Free; start = r.start; reads = r.reads; writes = r.writes }
-
 -- The table
 
-abbrev pub new_table : ℕ → Table
-new_table last = record { clock = 0; last = last; records = replicate 16 free_record }
+abbrev pub new_table : ℕ → TransactionTable
+new_table last = record { clock = 0; last = last; records = replicate MAX_ACTIVE free_record }
 
--- sixteen are active, or the clock is at the last tick, or the next tick is drawn
-abbrev pub begin_answer : Table → Result ℕ Fault
-begin_answer t =
-    if nat_le 16 (length (active_of t.records)) then Err TooManyActive
-    else if nat_le t.last t.clock then Err (ClockSpent t.last)
-    else Ok (t.clock + 1)
+-- the ledger's check of a begin, and the next tick once it is passed
+abbrev pub begin_answer : TransactionTable → Result ℕ Fault
+begin_answer t = result_map_both (λ _. t.clock + 1) (λ f. f) (begin_check (length (active_of t.records)) t.clock t.last)
 
 -- the next tick is drawn, and the first free record has the transaction that begins at it
-abbrev pub begun : Kind → Table → Table
+abbrev pub begun : Kind → TransactionTable → TransactionTable
 begun kind t = record { clock = t.clock + 1; last = t.last; records = first_changed is_free (λ _. new_record (t.clock + 1) kind) t.records }
 
 -- one transaction more, at this tick
 abbrev pub begun_active : Result ℕ Fault → Kind → List Record → List Transaction
 begun_active (Ok start) kind rs = fresh start kind ∷ active_of rs
 begun_active (Err f) kind rs = active_of rs
-
--- a transaction with this handle is active
-abbrev pub release_answer : ℕ → Table → Result (Unit {0}) Fault
-release_answer h t = if is_some (found (active_of t.records) h) then Ok tt else Err (NoTransaction h)
-
--- the first record with the handle is free
-abbrev pub released : ℕ → Table → Table
-released h t = record { clock = t.clock; last = t.last; records = first_changed (has_handle h) freed t.records }

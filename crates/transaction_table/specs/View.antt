@@ -1,5 +1,6 @@
 -- The transactions that the records of a table stand for.
 use Rattle.std.specs.Prelude.{Bool, true, false, if◌then◌else◌, List, [], ◌∷◌}
+use Rattle.ledger.specs.declared.TheConstants.{MAX_READS, MAX_WRITES}
 use Rattle.ledger.specs.declared.Kind.{Kind}
 use Rattle.ledger.specs.declared.Kind.TheVariants.{Reader, Updater}
 use Rattle.ledger.specs.declared.Range.{Range}
@@ -22,17 +23,17 @@ kind_of Free = Reader
 kind_of Reads = Reader
 kind_of Updates = Updater
 
-abbrev pub ranges : Bounded Range 32 → List Range
+abbrev pub ranges : Bounded Range MAX_READS → List Range
 ranges r = held r
 
-abbrev pub entries : Bounded Write 32 → List Write
+abbrev pub entries : Bounded Write MAX_WRITES → List Write
 entries w = held w
 
 -- the lists of a record in which no transaction has read or written
-abbrev pub no_ranges : Bounded Range 32
+abbrev pub no_ranges : Bounded Range MAX_READS
 no_ranges = no_items (record { first = 0; count = 0 })
 
-abbrev pub no_writes : Bounded Write 32
+abbrev pub no_writes : Bounded Write MAX_WRITES
 no_writes = no_items (record { key = 0; value = 0 })
 
 abbrev pub view : Record → Transaction

@@ -1,18 +1,18 @@
-//! The lists of a transaction: at most 32 items each, in the record itself.
+//! The lists of a transaction, each of at most so many items, in the record itself.
 ghost use Rattle.std.specs.Prelude.{◌≡◌, ◌≤◌, length, OnErr};
 ghost use Rattle.std.specs.Bool.{⊤};
 
-use ledger::{Range, Write};
+use ledger::{MAX_READS, MAX_WRITES, Range, Write};
 use std::alloc::AllocError;
 
 mod reading;
 mod writing;
 
 /// The ranges that an updater read, in the order made.
-pub type ReadList = Bounded<Range, 32>;
+pub type ReadList = Bounded<Range, MAX_READS>;
 
 /// The keys that an updater wrote, each once, with their values.
-pub type WriteList = Bounded<Write, 32>;
+pub type WriteList = Bounded<Write, MAX_WRITES>;
 
 /// A list of at most `N` items. An array of its own, and neither a `Vec` nor lent places: there is no heap here,
 /// and a record is copied whole.

@@ -1,8 +1,10 @@
-ghost use Rattle.std.specs.Prelude.{◌≡◌, if◌then◌else◌, nat_eq, OnErr};
-ghost use Rattle.ledger.specs.Ledger.{written};
-ghost use Rattle.transaction_table.specs.View.{view, ranges, entries};
+ghost use Rattle.std.specs.Prelude.{◌≡◌, if◌then◌else◌, OnErr};
+ghost use Rattle.std.specs.Result.{is_ok};
+ghost use Rattle.ledger.specs.Ledger.{handle_of, moment_of};
+ghost use Rattle.ledger.specs.Calls.{joined, wrote, range_check, join_check, write_check, having_made};
+ghost use Rattle.transaction_table.specs.View.{view};
 ghost use Rattle.transaction_table.specs.Places.{holds_kind, state_of, new_record, free_record};
-ghost use Rattle.transaction_table.specs.Notes.{range_answer, join_answer, write_answer, admits, on_ok, noted_on, reads_with};
+ghost use Rattle.transaction_table.specs.Next.{take_answer};
 
 use crate::lists::{ReadList, WriteList};
 use ledger::{Call, Fault, Kind, Range, Write};
@@ -16,11 +18,20 @@ pub enum State {
     Updater,
 }
 
+/// What is left to do for a call that a record took.
+#[derive(Clone, Copy, PartialEq)]
+pub enum Next {
+    /// The call can be answered.
+    Answer,
+    /// An updater wants to be committed, and has to be judged first.
+    Judge,
+}
+
 /// A place for one active transaction.
 #[derive(Clone, Copy)]
 pub struct Record {
     pub state: State,
-    /// The tick at which the transaction began: its handle.
+    /// The tick at which the transaction began.
     pub start: u32,
     pub reads: ReadList,
     pub writes: WriteList,
@@ -71,80 +82,96 @@ impl Record {
         }
     }
 
+    /// The handle that names the transaction: its start.
+    pub fn handle(&self) -> u32
+        ensures { result ≡ handle_of (view self.now) }
+    {
+        self.start
+    }
+
+    /// The moment that a reader reads as of.
+    pub fn moment(&self) -> u32
+        ensures { result ≡ moment_of (view self.now) }
+    {
+        // A reader reads as of the tick that names it.
+        self.handle()
+    }
+
     /// Takes a call of the transaction, on a table of so many keys and with a buffer of this length:
-    /// notes what it reads or writes, or refuses it.
-    pub fn take(&mut self, call: Call, keys: u16, room: usize) -> Result<(), Fault>
-        ensures answer { result ≡ admits keys room (view self.old) call }
+    /// notes what it reads or writes, and says what is left to do, or refuses it.
+    pub fn take(&mut self, call: Call, keys: u16, room: usize) -> Result<Next, Fault>
+        ensures answer { result ≡ take_answer keys room (view self.old) call }
         ensures state { self.new.state ≡ self.old.state }
-        ensures after { view self.new ≡ noted_on result (view self.old) call }
+        ensures after { view self.new ≡
+            (if is_ok result then having_made (view self.old) call else view self.old) }
         ensures refusal { OnErr result (self.new ≡ self.old) }
     {
         match (self.state, call) {
-            (State::Updater, Call::Write(handle, key, value)) => {
-                self.take_write(handle, Write { key, value }, keys)
+            (State::Updater, Call::Write { key, value, .. }) => {
+                self.take_write(Write { key, value }, keys)?;
             }
-            (_, Call::Write(handle, _, _)) => Err(Fault::ReaderWrites(handle)),
-            (State::Updater, Call::Read(handle, first, count)) => {
+            (_, Call::Write { .. }) => return Err(Fault::ReaderWrites {
+                handle: self.handle(),
+            }),
+            (State::Updater, Call::Read { first, count, .. }) => {
                 let range = Range { first, count };
                 readable(range, keys, room)?;
-                self.take_read(handle, range)
+                self.take_read(range)?;
             }
-            (_, Call::Read(_, first, count)) => readable(Range { first, count }, keys, room),
-            (_, _) => Ok(()),
+            (_, Call::Read { first, count, .. }) => readable(Range { first, count }, keys, room)?,
+            (State::Updater, Call::Commit { .. }) => return Ok(Next::Judge),
+            (_, _) => {}
         }
+        Ok(Next::Answer)
     }
 
-    // What each of the two leaves as it was is a fact of its step, and of no record by itself.
     /// An updater's write.
-    fn take_write(&mut self, handle: u32, write: Write, keys: u16) -> Result<(), Fault>
-        ensures answer { result ≡ write_answer keys handle write.key (entries self.old.writes) }
+    fn take_write(&mut self, write: Write, keys: u16) -> Result<(), Fault>
+        requires { self.old.state ≡ State.Updater }
+        ensures answer { result ≡ write_check keys (view self.old) write.key }
         ensures state { self.new.state ≡ self.old.state }
-        ensures start { self.new.start ≡ self.old.start }
-        ensures reads { self.new.reads ≡ self.old.reads }
-        ensures writes { entries self.new.writes ≡
-            on_ok result (written (entries self.old.writes) write.key write.value)
-            (entries self.old.writes) }
+        ensures after { view self.new ≡
+            (if is_ok result then wrote (view self.old) write.key write.value else view self.old) }
         ensures refusal { OnErr result (self.new ≡ self.old) }
     {
         if write.key >= keys {
-            return Err(Fault::KeyOutside(write.key));
+            return Err(Fault::KeyOutside { key: write.key });
         }
+        let handle = self.handle();
         self.writes
             .put(write)
-            .map_err(|_| Fault::WriteListFull(handle))
+            .map_err(|_| Fault::WriteListFull { handle })
     }
 
     /// An updater's read of a range that it may read.
-    fn take_read(&mut self, handle: u32, range: Range) -> Result<(), Fault>
-        ensures answer { result ≡ join_answer handle range.first range.count
-            (ranges self.old.reads) }
+    fn take_read(&mut self, range: Range) -> Result<(), Fault>
+        requires { self.old.state ≡ State.Updater }
+        ensures answer { result ≡ join_check (view self.old) range.first range.count }
         ensures state { self.new.state ≡ self.old.state }
-        ensures start { self.new.start ≡ self.old.start }
-        ensures writes { self.new.writes ≡ self.old.writes }
-        ensures reads { ranges self.new.reads ≡
-            (if nat_eq range.count 0 then ranges self.old.reads
-            else reads_with (ranges self.old.reads) range.first range.count) }
+        ensures after { view self.new ≡
+            (if is_ok result then joined (view self.old) range.first range.count else view self.old) }
         ensures refusal { OnErr result (self.new ≡ self.old) }
     {
         // A range of no keys reads nothing, so nothing can clash with it.
         if range.count == 0 {
             return Ok(());
         }
+        let handle = self.handle();
         self.reads
             .join(range)
-            .map_err(|_| Fault::ReadListFull(handle))
+            .map_err(|_| Fault::ReadListFull { handle })
     }
 }
 
 /// Whether the range lies in the table, and its values have room in a buffer of this length.
 fn readable(range: Range, keys: u16, room: usize) -> Result<(), Fault>
-    ensures { result ≡ range_answer keys room range.first range.count }
+    ensures { result ≡ range_check keys room range.first range.count }
 {
     if u32::from(range.first) + u32::from(range.count) > u32::from(keys) {
-        return Err(Fault::KeyOutside(range.first));
+        return Err(Fault::KeyOutside { key: range.first });
     }
     if room < usize::from(range.count) {
-        return Err(Fault::ShortBuffer(room));
+        return Err(Fault::ShortBuffer { length: room });
     }
     Ok(())
 }

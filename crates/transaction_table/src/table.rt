@@ -2,29 +2,29 @@ ghost use Rattle.std.specs.Prelude.{◌≡◌, ◌+◌, ◌-◌, ◌^◌, ◌<�
 ghost use Rattle.ledger.specs.Ledger.{least_start};
 ghost use Rattle.transaction_table.specs.View.{active_of};
 ghost use Rattle.transaction_table.specs.Shuffle.{Shuffle};
-ghost use Rattle.transaction_table.specs.Places.{is_free, has_handle, new_table, begin_answer, begun, begun_active, release_answer, released, of_kind};
+ghost use Rattle.transaction_table.specs.Places.{is_free, has_handle, new_table, begin_answer, begun, begun_active, of_kind};
 
 use crate::record::{Record, State};
-use ledger::{Fault, Kind};
+use ledger::{Fault, Kind, MAX_ACTIVE};
 
 /// The clock, and the active transactions.
 #[derive(Clone, Copy)]
-pub struct Table {
+pub struct TransactionTable {
     /// The last tick drawn.
     pub clock: u32,
     /// The last tick that may be drawn; 0 in an engine from a refused set-up.
     pub last: u32,
-    pub records: [Record; 16],
+    pub records: [Record; MAX_ACTIVE],
 }
 
-impl Table {
-    pub fn new(last: u32) -> Table
+impl TransactionTable {
+    pub fn new(last: u32) -> TransactionTable
         ensures { result ≡ new_table last }
     {
-        Table {
+        TransactionTable {
             clock: 0,
             last,
-            records: [Record::free(); 16],
+            records: [Record::free(); MAX_ACTIVE],
         }
     }
 
@@ -32,9 +32,10 @@ impl Table {
     pub fn find(&self, handle: u32) -> Option<usize>
         ensures place { result ≡ position (has_handle handle) self.now.records }
         // What a caller that indexes by it has to know.
-        ensures within { IfSome result (λ place. place < 16) }
+        ensures within { IfSome result (λ place. place < MAX_ACTIVE) }
     {
-        self.records.iter().position(|record| record.start == handle && record.state != State::Free)
+        self.records.iter().position(|record| record.handle() == handle
+            && record.state != State::Free)
     }
 
     /// A free place.
@@ -56,23 +57,12 @@ impl Table {
     {
         let slot = self.vacant().ok_or(Fault::TooManyActive)?;
         if self.clock >= self.last {
-            return Err(Fault::ClockSpent(self.last));
+            return Err(Fault::ClockSpent { last: self.last });
         }
         let start = self.clock + 1;
         self.clock = start;
         self.records[slot] = Record::new(start, kind);
         Ok(start)
-    }
-
-    /// Frees the place of the transaction with this handle, if there is one.
-    pub fn release(&mut self, handle: u32) -> Result<(), Fault>
-        ensures answer { result ≡ release_answer handle self.old }
-        ensures after { OnOk result (self.new ≡ released handle self.old) }
-        ensures refusal { OnErr result (self.new ≡ self.old) }
-    {
-        let slot = self.find(handle).ok_or(Fault::NoTransaction(handle))?;
-        self.records[slot].state = State::Free;
-        Ok(())
     }
 
     /// The least start tick of the transactions of this kind, or without any the next tick.

@@ -1,25 +1,28 @@
 // How transactions end: reclaim and commit.
-ghost use Rattle.std.specs.Prelude.{◌≡◌, ◌<◌, OnErr};
+ghost use Rattle.std.specs.Prelude.{◌≡◌, ◌<◌, Ok, OnErr};
 ghost use Rattle.ledger.specs.declared.Call.TheVariants.{Reclaim, Commit};
-ghost use Rattle.ledger.specs.declared.Answer.TheVariants.{Reclaimed, Ended};
+ghost use Rattle.ledger.specs.declared.Done.TheVariants.{Reclaimed, Ended};
+ghost use Rattle.std.specs.Option.{option_map};
+ghost use Rattle.ledger.specs.Ledger.{shortage};
+ghost use Rattle.versions.specs.Meaning.{kept};
 ghost use Rattle.validation.specs.Meaning.{clash_answer};
 ghost use Rattle.transaction_table.specs.View.{ranges};
 ghost use Rattle.engine.specs.Endings.{named, first_named, all_added, all_noted};
 ghost use Rattle.engine.specs.Verdicts.{MakesRoom, Judges};
 ghost use Rattle.engine.specs.Parts.{table_of};
-ghost use Rattle.engine.specs.Serves.{ServesBare, Idle, told};
+ghost use Rattle.engine.specs.Steps.{RefinesUnlent, Idle, answer_by};
 
 use super::Engine;
-use ledger::{Fault, Kind, Range, Verdict, Write};
-use transaction_table::record::{Record, State};
-use validation::validator::Validator;
+use ledger::{Call, Fault, Kind, Range, Verdict, Write};
+use transaction_table::record::{Next, Record, State};
+use validation::validator::{Clash, Validator};
 use versions::store::VersionStore;
 
 impl<S: VersionStore, V: Validator> Engine<S, V> {
     /// Removes the versions that no transaction reads, now or later, and answers how many.
     pub fn reclaim(&mut self) -> u16
-        ensures serves { ServesBare S.meaning V.meaning self.old self.new
-            Reclaim (Reclaimed result) }
+        ensures refines { RefinesUnlent S.meaning V.meaning self.old self.new
+            Reclaim (Ok (Reclaimed result)) }
         ensures table { table_of self.new ≡ table_of self.old }
         ensures idle { (table_of self.old).last ≡ 0 → (result ≡ 0) × (self.new ≡ self.old) }
     {
@@ -35,16 +38,18 @@ impl<S: VersionStore, V: Validator> Engine<S, V> {
     /// Ends a transaction. A reader is closed; an updater is committed, unless something that it read
     /// was committed since it began, or ticks or cells are lacking.
     pub fn commit(&mut self, handle: u32) -> Result<Verdict, Fault>
-        ensures serves { ServesBare S.meaning V.meaning self.old self.new
-            (Commit handle) (told Ended result) }
+        ensures refines { RefinesUnlent S.meaning V.meaning self.old self.new
+            (Commit handle) (answer_by Ended result) }
         ensures refusal { OnErr result (self.new ≡ self.old) }
         ensures idle { Idle self.old self.new }
     {
         let slot = self.place(handle)?;
+        let keys = self.store.keys();
+        let next = self.table.records[slot].take(Call::Commit { handle }, keys, 0)?;
         let ending = self.table.records[slot];
-        let verdict = match ending.state {
-            State::Updater => self.judge(&ending),
-            State::Free | State::Reader => Verdict::Closed,
+        let verdict = match next {
+            Next::Judge => self.judge(&ending),
+            Next::Answer => Verdict::Closed,
         };
         self.table.records[slot].state = State::Free;
         Ok(verdict)
@@ -57,20 +62,24 @@ impl<S: VersionStore, V: Validator> Engine<S, V> {
     {
         let writes = updater.writes.as_slice();
         self.make_room(writes.len());
-        if let Some((key, stamp)) = self.first_clash(updater) {
-            return Verdict::Restart(key, stamp);
+        if let Some(Clash { key, stamp }) = self.clash(updater) {
+            return Verdict::Restart { key, stamp };
         }
         if self.table.clock >= self.table.last {
             return Verdict::Spent;
         }
-        let free = self.store.free();
-        if writes.len() > usize::from(free) {
-            // A write list has 32 at most.
-            return Verdict::Full(writes.len() as u16, free);
+        if let Some(free) = self.shortage(writes.len()) {
+            return Verdict::Full {
+                // A write list is short.
+                writes: writes.len() as u16,
+                free,
+            };
         }
         self.table.clock += 1;
         self.install(writes);
-        Verdict::Committed(self.table.clock)
+        Verdict::Committed {
+            tick: self.table.clock,
+        }
     }
 
     /// Reclaims, if fewer cells are free than versions are to be added.
@@ -79,13 +88,22 @@ impl<S: VersionStore, V: Validator> Engine<S, V> {
         ensures table { self.new.table ≡ self.old.table }
         ensures idle { Idle self.old self.new }
     {
-        if versions > usize::from(self.store.free()) {
+        if self.shortage(versions).is_some() {
             self.reclaim();
         }
     }
 
-    /// The first clash of an updater: the key, and its granule's stamp.
-    fn first_clash(&self, updater: &Record) -> Option<(u16, u32)>
+    /// How many cells are free, if those are too few for so many versions.
+    fn shortage(&self, versions: usize) -> Option<u16>
+        ensures { result ≡ option_map (λ s. s.free)
+            (shortage (S.meaning self.now.store).cells (kept (S.meaning self.now.store)) versions) }
+    {
+        let free = self.store.free();
+        (versions > usize::from(free)).then_some(free)
+    }
+
+    /// The first clash of an updater.
+    fn clash(&self, updater: &Record) -> Option<Clash>
         ensures { result ≡ first_named (V.meaning self.now.validator) updater.now.start
             (ranges updater.now.reads) }
     {
@@ -105,7 +123,7 @@ impl<S: VersionStore, V: Validator> Engine<S, V> {
     }
 
     /// The first key of the range that clashes with a start, and its granule's stamp.
-    fn clash_in(&self, range: Range, start: u32) -> Option<(u16, u32)>
+    fn clash_in(&self, range: Range, start: u32) -> Option<Clash>
         ensures { result ≡ named
             (clash_answer (V.meaning self.now.validator) range.first range.count start) }
     {

@@ -1,11 +1,11 @@
 ghost use Rattle.std.specs.Prelude.{◌≡◌, OnErr};
 ghost use Rattle.transaction_table.specs.View.{ranges, no_ranges};
-ghost use Rattle.transaction_table.specs.Notes.{join_room, reads_with};
+ghost use Rattle.transaction_table.specs.Lists.{join_room, reads_with};
 
 use super::{Bounded, Full, ReadList};
-use ledger::Range;
+use ledger::{MAX_READS, Range};
 
-impl Bounded<Range, 32> {
+impl Bounded<Range, MAX_READS> {
     pub fn new() -> ReadList
         ensures { result ≡ no_ranges }
     {

@@ -1,12 +1,12 @@
 ghost use Rattle.std.specs.Prelude.{◌≡◌, position, OnErr};
 ghost use Rattle.ledger.specs.Ledger.{own_write};
 ghost use Rattle.transaction_table.specs.View.{entries, no_writes};
-ghost use Rattle.transaction_table.specs.Notes.{writes_to, put_room, writes_with};
+ghost use Rattle.transaction_table.specs.Lists.{writes_to, put_room, writes_with};
 
 use super::{Bounded, Full, WriteList};
-use ledger::Write;
+use ledger::{MAX_WRITES, Write};
 
-impl Bounded<Write, 32> {
+impl Bounded<Write, MAX_WRITES> {
     pub fn new() -> WriteList
         ensures { result ≡ no_writes }
     {

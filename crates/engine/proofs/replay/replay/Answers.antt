@@ -1,11 +1,11 @@
-use Rattle.std.proofs.Common.{◌≡◌, ◌+◌, ◌-◌, ◌≤◌, ◌++◌, length, take, drop, sym, refl, ap, ◌∙◌, subst, arith}
+use Rattle.std.proofs.Common.{◌≡◌, ◌+◌, ◌-◌, ◌≤◌, ◌++◌, length, take, drop, Ok, sym, refl, ap, ◌∙◌, subst, arith}
 use Rattle.ledger.specs.declared.Kind.TheVariants.{Reader}
 use Rattle.ledger.specs.declared.Call.TheVariants.{Begin}
-use Rattle.ledger.specs.declared.Answer.TheVariants.{Began}
+use Rattle.ledger.specs.declared.Done.TheVariants.{Began}
 use Rattle.engine.specs.Fits.{limits_of}
 use Rattle.engine.specs.SetUp.{last_of}
 use Rattle.engine.specs.Replays.{Replayed}
-use Rattle.engine.proofs.Replayings.{ends_within, gone_none, gone_more, gone_all}
+use Rattle.engine.proofs.Replays.{ends_within, gone_none, gone_more, gone_all}
 use Rattle.engine.proofs.replay.replay.Goals as goal
 
 pub loop-request-init : goal.loop-request-init
@@ -21,7 +21,7 @@ loop-request-preserved g c =
     let new = c.call-request.new.buffer in
     let k : end - start ≡ c.min.result = omega arith in (
       subst (λ z. end ≤ length (take start cs ++ (new ++ drop z (drop start cs)))) (sym k) (ends_within start c.min.result cs new (omega (arith, c.min.ensures, c.loop-request.invariant.0)) (subst (λ z. length new ≡ length (take z (drop start cs))) k c.call-request.auto.buffer)),
-      gone_more m p _ c.loop-request.request-index start end c.args.requests.now c.loop-request.requests c.args.buffers.now cs new _ c.loop-request.engine c.call-request.new.self (record { call = Begin Reader; room = 0; answer = Began 0 }) _ c.loop-request.invariant.1 c.loop-request-test.true c.loop-request.auto.requests refl (ap (λ z. start + z) c.min.ensures) c.call-request.auto.buffer refl c.call-request.ensures.history,
+      gone_more m p _ c.loop-request.request-index start end c.args.requests.now c.loop-request.requests c.args.buffers.now cs new _ c.loop-request.engine c.call-request.new.self (record { call = Begin Reader; room = 0; answer = Ok (Began 0) }) _ c.loop-request.invariant.1 c.loop-request-test.true c.loop-request.auto.requests refl (ap (λ z. start + z) c.min.ensures) c.call-request.auto.buffer refl c.call-request.ensures.history,
     )
 
 pub returns : goal.returns

@@ -1,6 +1,6 @@
 use Rattle.std.proofs.Common.{◌≤◌, length}
 use Rattle.engine.specs.Fits.{limits_of}
-use Rattle.engine.proofs.Replayings.{Gone}
+use Rattle.engine.proofs.Replays.{Gone}
 use Rattle.engine.proofs.replay.replay.Given as goal
 
 abbrev pub invariant-loop-request : goal.invariant-loop-request

@@ -1,5 +1,27 @@
-use Rattle.engine.proofs.Takings.{abort_steps}
+use Rattle.std.proofs.Common.{refl}
+use Rattle.std.proofs.lemmas.Result.{err_from_is_err_and}
+use Rattle.ledger.specs.declared.Call.TheVariants.{Abort}
+use Rattle.ledger.specs.declared.Fault.TheVariants.{NoTransaction}
+use Rattle.ledger.specs.declared.Done.TheVariants.{Aborted}
+use Rattle.ledger.specs.Calls.{abort_effect}
+use Rattle.transaction_table.proofs.Searches.{refused_search, found_search}
+use Rattle.engine.proofs.CallSteps.{missing_steps, stayed, still_fits, still_here, abort_steps}
 use Rattle.engine.proofs.engine.Engine.abort.Goals as goal
 
-pub returns-clause-serves : goal.returns-clause-serves
-returns-clause-serves g c b l f = abort_steps f c.args.handle b c.release.result c.release.new.self c.release.ensures.answer c.release.ensures.after c.release.ensures.refusal
+pub returns-in_err-slot-clause-refines : goal.returns-in_err-slot-clause-refines
+returns-in_err-slot-clause-refines g c b l f = missing_steps f (λ _. Aborted) _ b c.args.handle (λ _. abort_effect l b c.args.handle) _ refl (refused_search c.from_residual.result _ (NoTransaction c.args.handle) c.in_err-slot.field-0.0 c.from_residual.ensures.1 c.in_err-slot.ensures.place)
+
+pub returns-in_err-take-clause-refines : goal.returns-in_err-take-clause-refines
+returns-in_err-take-clause-refines g c b l f =
+    let there = found_search _ (NoTransaction c.args.handle) c.in_ok-slot.slot c.in_ok-slot.ensures.place in
+    let p = err_from_is_err_and c.from_residual-in_err-take.result c.from_residual-in_err-take.ensures.1 in
+    let e = c.in_err-take.ensures in
+    rw (p.1, p.2) (stayed f c.args.handle c.in_ok-slot.slot c.index-self-slot.result c.take.new.self there e.state _ c.keys-keys.ensures (Abort c.args.handle) b (λ _. abort_effect l b c.args.handle) _ refl e.answer e.refusal)
+
+pub returns-clause-refines : goal.returns-clause-refines
+returns-clause-refines g c b l f =
+    let there = found_search _ (NoTransaction c.args.handle) c.in_ok-slot.slot c.in_ok-slot.ensures.place in
+    let e = c.in_ok-take.ensures in
+    let still = still_fits f c.args.handle c.in_ok-slot.slot c.index-self-slot.result c.take.new.self there e.state _ c.keys-keys.ensures (Abort c.args.handle) b (λ x. refl) e.after in
+    let here = still_here f c.args.handle c.in_ok-slot.slot c.index-self-slot.result c.take.new.self there e.state _ c.keys-keys.ensures (Abort c.args.handle) b (λ x. refl) e.after c.index-self-slot-2.result in
+    abort_steps still c.args.handle c.in_ok-slot.slot here b _ refl

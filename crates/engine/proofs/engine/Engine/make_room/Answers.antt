@@ -1,9 +1,10 @@
-use Rattle.std.proofs.Common.{[], arith}
-use Rattle.engine.proofs.Reclaimings.{room_enough, room_short}
+use Rattle.std.proofs.Common.{[], true, false, sym, ap, ◌∙◌}
+use Rattle.std.specs.Option.{is_some}
+use Rattle.engine.proofs.Reclaims.{room_made, is_short}
 use Rattle.engine.proofs.engine.Engine.make_room.Goals as goal
 
-pub returns-then-versions-from-clause-fits : goal.returns-then-versions-from-clause-fits
-returns-then-versions-from-clause-fits g c l on f = room_short f on c.args.versions (omega (arith, c.free.ensures, c.if-versions-from.true, c.from.ensures)) (c.reclaim.ensures.serves [] l f).after
+pub returns-then-is_some-clause-fits : goal.returns-then-is_some-clause-fits
+returns-then-is_some-clause-fits g c l on f = room_made f on c.args.versions true (sym c.if-is_some.true ∙ c.is_some.ensures ∙ ap is_some c.shortage.ensures ∙ is_short _) (λ _. (c.reclaim.ensures.refines [] l f).after) (λ q. cc)
 
-pub returns-else-versions-from-clause-fits : goal.returns-else-versions-from-clause-fits
-returns-else-versions-from-clause-fits g c l on f = room_enough f on c.args.versions (omega (arith, c.free.ensures, c.if-versions-from.false, c.from.ensures))
+pub returns-else-is_some-clause-fits : goal.returns-else-is_some-clause-fits
+returns-else-is_some-clause-fits g c l on f = room_made f on c.args.versions false (sym c.if-is_some.false ∙ c.is_some.ensures ∙ ap is_some c.shortage.ensures ∙ is_short _) (λ q. cc) (λ _. f)

@@ -1,12 +1,25 @@
+use Rattle.std.proofs.Common.{refl}
+use Rattle.std.proofs.lemmas.Result.{err_from_is_err_and}
+use Rattle.ledger.specs.declared.Call.TheVariants.{Write}
 use Rattle.ledger.specs.declared.Fault.TheVariants.{NoTransaction}
+use Rattle.ledger.specs.declared.Done.TheVariants.{Wrote}
+use Rattle.ledger.specs.Calls.{write_effect}
 use Rattle.transaction_table.proofs.Searches.{refused_search, found_search}
-use Rattle.engine.proofs.Takings.{missing_steps, write_steps}
+use Rattle.engine.proofs.CallSteps.{missing_steps, stayed, write_steps}
 use Rattle.engine.proofs.engine.Engine.write.Goals as goal
 
-pub returns-in_err-slot-clause-serves : goal.returns-in_err-slot-clause-serves
-returns-in_err-slot-clause-serves g c b l f = missing_steps f _ _ b c.args.handle _ (refused_search c.from_residual.result _ (NoTransaction c.args.handle) c.in_err-slot.field-0.0 c.from_residual.ensures.1 c.in_err-slot.ensures.place) (λ e. rw e)
+pub returns-in_err-slot-clause-refines : goal.returns-in_err-slot-clause-refines
+returns-in_err-slot-clause-refines g c b l f = missing_steps f (λ _. Wrote) _ b c.args.handle (λ _. write_effect l b c.args.handle c.args.key c.args.value) _ refl (refused_search c.from_residual.result _ (NoTransaction c.args.handle) c.in_err-slot.field-0.0 c.from_residual.ensures.1 c.in_err-slot.ensures.place)
 
-pub returns-clause-serves : goal.returns-clause-serves
-returns-clause-serves g c b l f =
+pub returns-in_err-take-clause-refines : goal.returns-in_err-take-clause-refines
+returns-in_err-take-clause-refines g c b l f =
     let there = found_search _ (NoTransaction c.args.handle) c.in_ok-slot.slot c.in_ok-slot.ensures.place in
-    write_steps f c.args.handle c.in_ok-slot.slot c.index-self-slot.result c.take.new.self there c.take.ensures.state _ c.keys-keys.ensures c.args.key c.args.value 0 b c.take.result c.take.ensures.answer c.take.ensures.after c.take.ensures.refusal
+    let p = err_from_is_err_and c.from_residual-in_err-take.result c.from_residual-in_err-take.ensures.1 in
+    let e = c.in_err-take.ensures in
+    rw (p.1, p.2) (stayed f c.args.handle c.in_ok-slot.slot c.index-self-slot.result c.take.new.self there e.state _ c.keys-keys.ensures (Write c.args.handle c.args.key c.args.value) b (λ _. write_effect l b c.args.handle c.args.key c.args.value) _ refl e.answer e.refusal)
+
+pub returns-clause-refines : goal.returns-clause-refines
+returns-clause-refines g c b l f =
+    let there = found_search _ (NoTransaction c.args.handle) c.in_ok-slot.slot c.in_ok-slot.ensures.place in
+    let e = c.in_ok-take.ensures in
+    write_steps f c.args.handle c.in_ok-slot.slot c.index-self-slot.result c.take.new.self there e.state _ c.keys-keys.ensures c.args.key c.args.value b c.in_ok-take.field-0 e.answer e.after

@@ -1,6 +1,6 @@
 use Rattle.std.proofs.Common.{◌≡◌, drop, None}
 use Rattle.engine.specs.Endings.{first_named}
-use Rattle.engine.proofs.engine.Engine.first_clash.Given as goal
+use Rattle.engine.proofs.engine.Engine.clash.Given as goal
 
 abbrev pub invariant-entries : goal.invariant-entries
 invariant-entries g l =

@@ -1,5 +1,6 @@
 use Rattle.std.proofs.Common.{◌≡◌, ℕ, ◌+◌, ◌∷◌, List, length, Result, Ok, Err, IsErr, set, sym, ap, ◌∙◌, subst, rules}
 use Rattle.std.proofs.lemmas.Bool.{le-leb, lt-leb}
+use Rattle.ledger.specs.declared.TheConstants.{MAX_ACTIVE}
 use Rattle.ledger.specs.declared.Fault.{Fault}
 use Rattle.ledger.specs.declared.Fault.TheVariants.{TooManyActive}
 use Rattle.ledger.specs.declared.Kind.{Kind}
@@ -9,16 +10,16 @@ use Rattle.transaction_table.specs.View.{active_of}
 use Rattle.transaction_table.specs.Places.{is_free, new_record, begun_active}
 use Rattle.transaction_table.specs.Shuffle.{Shuffle}
 use Rattle.transaction_table.proofs.Searches.{refused_search, found_search, first_changed-set}
-use Rattle.transaction_table.proofs.Slots.{crowded, roomy, vacant_at, slots_open, new_view, new_taken}
+use Rattle.transaction_table.proofs.Slots.{none_vacant, roomy, vacant_at, slots_open, new_view, new_taken}
 use Rattle.transaction_table.proofs.Shuffles.{shuffle_refl}
-use Rattle.transaction_table.proofs.table.Table.begin.Goals as goal
+use Rattle.transaction_table.proofs.table.TransactionTable.begin.Goals as goal
 
 pub returns-in_err-slot-clause-answer : goal.returns-in_err-slot-clause-answer
 returns-in_err-slot-clause-answer c =
     let rs = c.args.self.now.records in
-    let n : length rs ≡ 16 = search rules in
+    let n : length rs ≡ MAX_ACTIVE = search rules in
     let p = refused_search c.from_residual.result c.vacant.result TooManyActive c.in_err-slot.field-0.0 c.from_residual.ensures.1 c.in_err-slot.ensures.value in
-    rw (p.0, crowded rs n (p.1 ∙ c.vacant.ensures))
+    rw (p.0, none_vacant rs n (p.1 ∙ c.vacant.ensures))
 
 refused_none : (r : Result ℕ Fault) (kind : Kind) (rs : List Record) → IsErr r → Shuffle (begun_active r kind rs) (active_of rs)
 refused_none (Ok x) kind rs e = cc
@@ -30,7 +31,7 @@ returns-in_err-slot-clause-active c = refused_none c.from_residual.result c.args
 pub returns-then-self-clause-answer : goal.returns-then-self-clause-answer
 returns-then-self-clause-answer c =
     let rs = c.args.self.now.records in
-    let n : length rs ≡ 16 = search rules in
+    let n : length rs ≡ MAX_ACTIVE = search rules in
     let e = found_search c.vacant.result TooManyActive c.in_ok-slot.slot c.in_ok-slot.ensures.value ∙ c.vacant.ensures in
     rw (roomy rs c.in_ok-slot.slot n e, le-leb _ _ c.if-self.true)
 
@@ -40,7 +41,7 @@ returns-then-self-clause-active c = shuffle_refl _
 pub returns-clause-answer : goal.returns-clause-answer
 returns-clause-answer c =
     let rs = c.args.self.now.records in
-    let n : length rs ≡ 16 = search rules in
+    let n : length rs ≡ MAX_ACTIVE = search rules in
     let e = found_search c.vacant.result TooManyActive c.in_ok-slot.slot c.in_ok-slot.ensures.value ∙ c.vacant.ensures in
     rw (roomy rs c.in_ok-slot.slot n e, lt-leb _ _ c.if-self.false)
 

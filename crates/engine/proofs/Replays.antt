@@ -4,14 +4,14 @@ use Rattle.std.proofs.lemmas.List.{take_more, take_more_set, take_all, take_at, 
 use Rattle.std.proofs.lemmas.Bool.{cases_lt}
 use Rattle.ledger.specs.Ledger.{Limits, new_ledger}
 use Rattle.ledger.specs.History.{Made}
-use Rattle.versions.specs.Meaning.{Meaning as Store}
-use Rattle.validation.specs.Meaning.{Meaning as Stamps}
+use Rattle.versions.specs.Meaning.{Store}
+use Rattle.validation.specs.Meaning.{Stamps}
 use Rattle.engine.specs.declared.engine.Engine.{Engine}
 use Rattle.engine.specs.declared.replay.Request.{Request}
 use Rattle.engine.specs.Fits.{Fits}
-use Rattle.engine.specs.Serves.{Lawfully, GoesOn, made}
+use Rattle.engine.specs.Steps.{Lawfully, GoesOn, call_made}
 use Rattle.engine.specs.Replays.{beyond, onto, wish, Each, Replayed}
-use Rattle.engine.proofs.Goings.{lawful_in}
+use Rattle.engine.proofs.Histories.{lawful_in}
 
 head_same : {X : Type 0} (x y : X) (xs ys : List X) → x ∷ xs ≡ y ∷ ys → (x ≡ y) × (xs ≡ ys)
 head_same x y xs ys e = (cc, cc)
@@ -88,7 +88,7 @@ module _ {S V : Type 0} (m : S → Store) (p : V → Stamps) (n : Limits) where
       let long_rest : (ys : List ℕ) → length ys ≡ length (drop k g.rest) → length (new ++ ys) ≡ length g.rest = λ ys same. length-append new ys ∙ omega (arith, length-drop k g.rest) in
       let now = goes n g.ms g.whole.0 in
       record {
-        ms = made r.call (take k (drop start cs)) r.answer new ∷ g.ms;
+        ms = call_made r.call (take k (drop start cs)) r.answer new ∷ g.ms;
         front = g.front ++ new;
         rest = drop k g.rest;
         starts = length-append g.front new ∙ omega (arith, g.starts);
@@ -104,11 +104,11 @@ module _ {S V : Type 0} (m : S → Store) (p : V → Stamps) (n : Limits) where
             ∙ ap (λ xs. onto [] (take i qs ++ (q ∷ qs')) xs bs ((g.front ++ new) ++ ys)) (append_assoc (take i rs) (r ∷ []) rs')
             ∙ ap (λ xs. onto [] (take i qs ++ (q ∷ qs')) (take i rs ++ (r ∷ rs')) bs xs) (append_assoc g.front new ys)
             ∙ g.carry (q ∷ qs') (r ∷ rs') (new ++ ys) (long_rest ys same)
-            ∙ ap (λ xs. onto (made q.call (take q.room g.rest) r.answer (take q.room (new ++ ys)) ∷ g.ms) qs' rs' xs (drop q.room (new ++ ys))) more
-            ∙ ap (λ xs. onto (made q.call (take q.room g.rest) r.answer (take q.room (new ++ ys)) ∷ g.ms) qs' rs' (drop k g.rest) xs) (own ys same).1
-            ∙ ap (λ xs. onto (made q.call (take q.room g.rest) r.answer xs ∷ g.ms) qs' rs' (drop k g.rest) ys) (own ys same).0
-            ∙ ap (λ xs. onto (made q.call xs r.answer new ∷ g.ms) qs' rs' (drop k g.rest) ys) (sym given)
-            ∙ ap (λ x. onto (made x (take k (drop start cs)) r.answer new ∷ g.ms) qs' rs' (drop k g.rest) ys) (sym same-call);
+            ∙ ap (λ xs. onto (call_made q.call (take q.room g.rest) r.answer (take q.room (new ++ ys)) ∷ g.ms) qs' rs' xs (drop q.room (new ++ ys))) more
+            ∙ ap (λ xs. onto (call_made q.call (take q.room g.rest) r.answer (take q.room (new ++ ys)) ∷ g.ms) qs' rs' (drop k g.rest) xs) (own ys same).1
+            ∙ ap (λ xs. onto (call_made q.call (take q.room g.rest) r.answer xs ∷ g.ms) qs' rs' (drop k g.rest) ys) (own ys same).0
+            ∙ ap (λ xs. onto (call_made q.call xs r.answer new ∷ g.ms) qs' rs' (drop k g.rest) ys) (sym given)
+            ∙ ap (λ x. onto (call_made x (take k (drop start cs)) r.answer new ∷ g.ms) qs' rs' (drop k g.rest) ys) (sym same-call);
         whole = now;
         beginnings = ((e', now), g.beginnings);
       }

@@ -3,7 +3,7 @@ use lib.Seq.{take-set-lt}
 use Rattle.std.proofs.lemmas.List.{length-take-le}
 use Rattle.transaction_table.specs.View.{entries}
 use Rattle.transaction_table.proofs.Writes.{written_push, stands, unwritten}
-use Rattle.transaction_table.proofs.lists.writing.Bounded+Write+32.put.Goals as goal
+use Rattle.transaction_table.proofs.lists.writing.Bounded+Write+MAX_WRITES.put.Goals as goal
 
 pub returns-in-Some : goal.returns-in-Some
 returns-in-Some c =

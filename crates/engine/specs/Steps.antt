@@ -1,45 +1,40 @@
 -- The contracts of the calls.
-use Rattle.std.specs.Prelude.{◌≡◌, ℕ, List, ◌∷◌, Ok, Err, Result}
+use Rattle.std.specs.Prelude.{◌≡◌, ℕ, List, ◌∷◌, Result}
+use Rattle.std.specs.Result.{result_map_both}
 use Rattle.ledger.specs.declared.Call.{Call}
 use Rattle.ledger.specs.declared.Fault.{Fault}
-use Rattle.ledger.specs.declared.Answer.{Answer}
-use Rattle.ledger.specs.declared.Answer.TheVariants.{Refused}
+use Rattle.ledger.specs.declared.Done.{Done}
 use Rattle.ledger.specs.Ledger.{Limits, Ledger}
 use Rattle.ledger.specs.Calls.{step}
 use Rattle.ledger.specs.History.{Made, after, Told}
 use Rattle.ledger.specs.Laws.{Lawful}
-use Rattle.versions.specs.Meaning.{Meaning as Store, newest}
-use Rattle.validation.specs.Meaning.{Meaning as Stamps}
-use Rattle.transaction_table.specs.declared.table.Table.{Table}
+use Rattle.versions.specs.Meaning.{Store, newest}
+use Rattle.validation.specs.Meaning.{Stamps}
+use Rattle.transaction_table.specs.declared.table.TransactionTable.{TransactionTable}
 use Rattle.engine.specs.declared.engine.Engine.{Engine}
 use Rattle.engine.specs.Fits.{Fits}
 use Rattle.engine.specs.Parts.{FitsEngine}
 
--- what a result answers
-abbrev pub told : {X : Type 0} → (X → Answer) → Result X Fault → Answer
-told f (Ok x) = f x
-told f (Err e) = Refused e
+-- the answer that a result is
+abbrev pub answer_by : {X : Type 0} → (X → Done) → Result X Fault → Result Done Fault
+answer_by f r = result_map_both f (λ e. e) r
 
 -- the answer and the buffer are the ledger's, and the ledger after the call fits
-pub record Steps (l : Ledger) (c : Call) (b : List ℕ) (a : Answer) (b' : List ℕ) (t : Table) (s : Store) (v : Stamps) : Type 0 where
+pub record Steps (l : Ledger) (c : Call) (b : List ℕ) (a : Result Done Fault) (b' : List ℕ) (t : TransactionTable) (s : Store) (v : Stamps) : Type 0 where
   pub answer : a ≡ (step l c b).answer
   pub buffer : b' ≡ (step l c b).buffer
   pub after : Fits (step l c b).ledger t s v
 
--- P, if the call was refused
-abbrev pub OnRefused : Answer → Type 0 → Type 0
-OnRefused a P = (f : Fault) → a ≡ Refused f → P
-
 -- From e to e' a call c was made with the buffer b, answered a, and left b' in the buffer. m and p are the meanings of the store and of the validator.
 
 -- each ledger that fits before the call tells the answer and the buffer, and fits a step further after it
-abbrev pub Serves : {S V : Type 0} → (S → Store) → (V → Stamps) → Engine S V → Engine S V → Call → List ℕ → Answer → List ℕ → Type 0
-Serves m p e e' c b a b' = (l : Ledger) → FitsEngine m p l e
+abbrev pub Refines : {S V : Type 0} → (S → Store) → (V → Stamps) → Engine S V → Engine S V → Call → List ℕ → Result Done Fault → List ℕ → Type 0
+Refines m p e e' c b a b' = (l : Ledger) → FitsEngine m p l e
     → Steps l c b a b' e'.table (m e'.store) (p e'.validator)
 
 -- the same of a call that is lent no buffer: whatever it is, it is left as it was
-abbrev pub ServesBare : {S V : Type 0} → (S → Store) → (V → Stamps) → Engine S V → Engine S V → Call → Answer → Type 0
-ServesBare m p e e' c a = (b : List ℕ) → Serves m p e e' c b a b
+abbrev pub RefinesUnlent : {S V : Type 0} → (S → Store) → (V → Stamps) → Engine S V → Engine S V → Call → Result Done Fault → Type 0
+RefinesUnlent m p e e' c a = (b : List ℕ) → Refines m p e e' c b a b
 
 -- an engine from a refused set-up touches neither store nor validator, and stays one
 abbrev pub Idle : {S V : Type 0} → Engine S V → Engine S V → Type 0
@@ -51,15 +46,15 @@ Led m p n ms e = Told n ms × FitsEngine m p (after n ms) e
 
 -- the values that the store's newest answers
 abbrev pub newest_in : Store → ℕ → ℕ
-newest_in s k = (newest (s.versions k)).1
+newest_in s k = (newest (s.versions k)).value
 
 -- the history led to the engine, and is lawful
 abbrev pub Lawfully : {S V : Type 0} → (S → Store) → (V → Stamps) → Limits → List Made → Engine S V → Type 0
 Lawfully m p n ms e = Led m p n ms e × Lawful n ms (newest_in (m e.store))
 
-abbrev pub made : Call → List ℕ → Answer → List ℕ → Made
-made c b a b' = record { call = c; given = b; answer = a; left = b' }
+abbrev pub call_made : Call → List ℕ → Result Done Fault → List ℕ → Made
+call_made c b a b' = record { call = c; given = b; answer = a; left = b' }
 
 -- each history that led to the engine before the call leads on, with this call, to the engine after it, and is lawful
-abbrev pub GoesOn : {S V : Type 0} → (S → Store) → (V → Stamps) → Engine S V → Engine S V → Call → List ℕ → Answer → List ℕ → Type 0
-GoesOn m p e e' c b a b' = (n : Limits) (ms : List Made) → Led m p n ms e → Lawfully m p n (made c b a b' ∷ ms) e'
+abbrev pub GoesOn : {S V : Type 0} → (S → Store) → (V → Stamps) → Engine S V → Engine S V → Call → List ℕ → Result Done Fault → List ℕ → Type 0
+GoesOn m p e e' c b a b' = (n : Limits) (ms : List Made) → Led m p n ms e → Lawfully m p n (call_made c b a b' ∷ ms) e'

@@ -6,7 +6,7 @@ use Rattle.ledger.specs.Ledger.{least_start}
 use Rattle.transaction_table.specs.View.{active_of}
 use Rattle.transaction_table.specs.Places.{of_kind, holds_kind}
 use Rattle.transaction_table.proofs.Slots.{least_fold}
-use Rattle.transaction_table.proofs.table.Table.least_start.Goals as goal
+use Rattle.transaction_table.proofs.table.TransactionTable.least_start.Goals as goal
 
 pub returns : goal.returns
 returns c =
