@@ -1,1 +1,1 @@
-mod Limits
+mod Granules

@@ -1,16 +1,15 @@
 -- Records answered one after another, on a ledger and on an engine.
 use Rattle.std.proofs.Common.{◌≡◌, ℕ, ◌+◌, List, [], ◌∷◌, ◌++◌, length, Some, None, Option, codes, refl, sym, ap, ◌∙◌, subst, append_assoc, arith}
 use Rattle.ledger.specs.declared.Call.{Call}
-use Rattle.ledger.specs.declared.Answer.{Answer}
 use Rattle.ledger.specs.Ledger.{Ledger, Limits}
 use Rattle.ledger.specs.History.{Made, after, Told}
 use Rattle.records.specs.Format.{decoded}
-use Rattle.versions.specs.Meaning.{Meaning as Store}
-use Rattle.validation.specs.Meaning.{Meaning as Stamps}
+use Rattle.versions.specs.Meaning.{Store}
+use Rattle.validation.specs.Meaning.{Stamps}
 use Rattle.engine.specs.declared.engine.Engine.{Engine}
 use Rattle.engine.specs.Parts.{FitsEngine}
-use Rattle.engine.specs.Serves.{Serves, Idle}
-use Rattle.engine.proofs.Goings.{lawful_in}
+use Rattle.engine.specs.Steps.{Idle}
+use Rattle.engine.proofs.Histories.{lawful_in}
 use Rattle.callfile.specs.Lines.{line_text}
 use Rattle.callfile.specs.Files.{record_answer, answer_from}
 use Rattle.callfile.specs.Runs.{Answers}
@@ -78,13 +77,6 @@ module _ {S V : Type 0} {m : S → Store} {p : V → Stamps} where
       (λ l f. ap (λ o. (record_answer n l b o).buffer) (sym d))
       (λ l f. subst (λ o. FitsEngine m p (record_answer n l b o).ledger e) (sym d) f)
       (λ z. (refl, refl, z))
-
-  -- a call
-  pub answers_call : (e e' : Engine S V) (n : ℕ) (r : List ℕ) (c : Call) (b b' : List ℕ) (a : Answer) → decoded r ≡ Some c → Serves m p e e' c b a b' → Idle e e' → Answers m p e e' n (r ∷ []) b b'
-  answers_call e e' n r c b b' a d serves idle = answers_by e e' n (r ∷ []) b b'
-      (λ l f. (serves l f).buffer ∙ ap (λ o. (record_answer n l b o).buffer) (sym d))
-      (λ l f. subst (λ o. FitsEngine m p (record_answer n l b o).ledger e') (sym d) (serves l f).after)
-      idle
 
   -- some records, and then more
   pub answers_join : (e e' e'' : Engine S V) (n k : ℕ) (rs qs : List (List ℕ)) (b b' b'' : List ℕ) → k ≡ n + length rs

@@ -3,4 +3,3 @@ pub mod Pieces
 pub mod Programs
 mod Reading
 pub mod Running
-mod Spacing

@@ -1,25 +1,26 @@
 -- How far a run has come.
-use Rattle.std.proofs.Common.{◌≡◌, ℕ, ◌+◌, ◌*◌, ◌-◌, ◌^◌, ◌<◌, ◌≤◌, true, false, ◌==◌, List, [], ◌∷◌, ◌++◌, length, take, drop, Some, None, Option, IfSome, OnErr, MatchResult, Result, Ok, Err, refl, sym, ap, ◌∙◌, subst, ⊎_elim, append_assoc, append-nil, arith, length-append, le_refl, take_all, length-take-le, lit<, true≢false, eq-eqb, codes}
+use Rattle.std.proofs.Common.{◌≡◌, ℕ, ◌+◌, ◌*◌, ◌-◌, ◌^◌, ◌<◌, ◌≤◌, true, false, ◌==◌, List, [], ◌∷◌, ◌++◌, length, take, Some, None, Option, IfSome, OnErr, MatchResult, Result, Ok, Err, refl, sym, ap, ◌∙◌, subst, ⊎_elim, append_assoc, append-nil, arith, length-append, length-take-le, lit<, true≢false, eq-eqb, codes}
 use Rattle.std.proofs.lemmas.Bool.{cases_eq, eqb-true}
 use Rattle.std.specs.List.{AllByRecursion, concat}
 use Rattle.std.specs.Io.{StartsWith}
 use Rattle.std.specs.Io.KnownBytes.{Keeps, Appends, Consumes, IsAtEnd}
-use Rattle.std.proofs.KnownBytes.{Appends-nil, Appends-trans, Appends-kept, Consumes-nil, Consumes-trans, starts_with_rest}
+use Rattle.std.proofs.KnownBytes.{Appends-nil, Appends-trans, Appends-kept, Consumes-nil, Consumes-trans, Consumes-whole}
 use Rattle.std.proofs.lemmas.Result.{MatchResult-weaker}
-use lib.Seq.{take-append_seam}
+use Rattle.std.proofs.Math.Seq.{take-append-add, take-append_seam, take-length}
+use Rattle.std.proofs.lemmas.List.Folds.{concat-append}
 use Rattle.ledger.specs.Ledger.{Ledger}
-use Rattle.versions.specs.Meaning.{Meaning as Store}
-use Rattle.validation.specs.Meaning.{Meaning as Stamps}
+use Rattle.versions.specs.Meaning.{Store}
+use Rattle.validation.specs.Meaning.{Stamps}
 use Rattle.engine.specs.declared.engine.Engine.{Engine}
 use Rattle.engine.specs.Parts.{FitsEngine}
 use Rattle.callfile.specs.Files.{records_of, answer_from, record_answer}
-use Rattle.callfile.specs.Runs.{Answers, AnswersFile, AppendsLines, AppendsSome, AppendsSomeLines, ConsumesSome, Stops, Results}
+use Rattle.callfile.specs.Runs.{Answers, AnswersFile, AppendsLines, AppendsSome, AppendsSomeLines, AreFirst, ConsumesSome, Stops, Results}
 use Rattle.callfile.specs.Steps.{Advances, Breaks, GoesThrough, GrowsByLines, HandsOver}
 use Rattle.callfile.proofs.Pieces.{IsFull, records_of-full, records_of-part, records_of-whole}
 use Rattle.callfile.proofs.Answering.{joined, answers_no_record, answers_join}
 use Rattle.records.specs.Format.{decoded}
-use Rattle.callfile.specs.declared.fault.CallFault.{CallFault}
-use Rattle.callfile.specs.declared.line.Done.{Done}
+use Rattle.answer_lines.specs.declared.LineFault.{LineFault}
+use Rattle.ledger.specs.declared.Done.{Done}
 use Rattle.callfile.specs.Lines.{line_text}
 
 -- full records at the front of a file
@@ -32,44 +33,27 @@ full_push [] r full whole = (whole, tt)
 full_push (q ∷ qs) r full whole = (full.0, full_push qs r full.1 whole)
 
 concat-push : (rs : List (List ℕ)) (r : List ℕ) → concat (rs ++ (r ∷ [])) ≡ concat rs ++ r
-concat-push [] r = append-nil r
-concat-push (q ∷ qs) r = ap (λ l. q ++ l) (concat-push qs r) ∙ sym (append_assoc q (concat qs) r)
+concat-push rs r = concat-append rs (r ∷ []) ∙ ap (λ l. concat rs ++ l) (append-nil r)
 
 length-concat : (rs : List (List ℕ)) → AllByRecursion IsFull rs → length (concat rs) ≡ 20 * length rs
 length-concat [] full = refl
 length-concat (q ∷ qs) full = length-append q (concat qs) ∙ (let more = length-concat qs full.1 in let one : length q ≡ 20 = full.0 in omega (arith, more, one))
 
--- a text is a beginning of itself with more behind it
-starts_with-append : (bs more : List ℕ) → StartsWith (bs ++ more) bs
-starts_with-append bs more = take-append_seam bs more
-
--- a text is a beginning of itself
-starts_with-all : (bs : List ℕ) → StartsWith bs bs
-starts_with-all bs = subst (λ l. StartsWith l bs) (append-nil bs) (starts_with-append bs [])
-
--- what was written, and then a beginning of more
-begun_on : (xs ys bs : List ℕ) → StartsWith ys bs → StartsWith (xs ++ ys) (xs ++ bs)
-begun_on xs ys bs h =
-    let rest = drop (length bs) ys in
-    let whole : ys ≡ bs ++ rest = starts_with_rest ys bs h in
-    subst (λ l. StartsWith l (xs ++ bs)) (append_assoc xs bs rest ∙ ap (λ l. xs ++ l) (sym whole)) (starts_with-append (xs ++ bs) rest)
-
 -- the first so many of a list
-take-behind : (rs qs more : List (List ℕ)) → take (length qs) more ≡ qs → take (length (rs ++ qs)) (rs ++ more) ≡ rs ++ qs
-take-behind [] qs more h = h
-take-behind (r ∷ rs) qs more h = ap (λ l. r ∷ l) (take-behind rs qs more h)
+take-behind : {X : Type 0} (xs ys bs : List X) → take (length bs) ys ≡ bs → take (length (xs ++ bs)) (xs ++ ys) ≡ xs ++ bs
+take-behind xs ys bs h = ap (λ n. take n (xs ++ ys)) (length-append xs bs) ∙ take-append-add xs ys (length bs) ∙ ap (λ l. xs ++ l) h
 
 -- the first of the records of what is left stand behind those of what was taken
 first_behind : (rs qs : List (List ℕ)) (a b : Option (List ℕ)) → AllByRecursion IsFull rs → Consumes a b (concat rs)
-    → IfSome b (λ bytes. take (length qs) (records_of bytes) ≡ qs) → IfSome a (λ bytes. take (length (rs ++ qs)) (records_of bytes) ≡ rs ++ qs)
+    → AreFirst qs b → AreFirst (rs ++ qs) a
 first_behind rs qs None b full c h = tt
 first_behind rs qs (Some xs) None full c h = absurd c
 first_behind rs qs (Some xs) (Some ys) full c h =
-    ap (λ l. take (length (rs ++ qs)) l) (ap records_of c ∙ records_of-behind rs ys full) ∙ take-behind rs qs (records_of ys) h
+    ap (λ l. take (length (rs ++ qs)) l) (ap records_of c ∙ records_of-behind rs ys full) ∙ take-behind rs (records_of ys) qs h
 
 -- one record was taken, and is whole, or else nothing is left
 pub first_taken : (bytes : List ℕ) (a b : Option (List ℕ)) → 0 < length bytes → length bytes ≤ 20 → (length bytes < 20 → IsAtEnd b) → Consumes a b bytes
-    → IfSome a (λ xs. take 1 (records_of xs) ≡ bytes ∷ [])
+    → AreFirst (bytes ∷ []) a
 first_taken bytes None b some most end c = tt
 first_taken bytes (Some xs) None some most end c = absurd c
 first_taken bytes (Some xs) (Some ys) some most end c = ap (λ l. take 1 (records_of l)) c ∙ ⊎_elim
@@ -78,13 +62,11 @@ first_taken bytes (Some xs) (Some ys) some most end c = ap (λ l. take 1 (record
     (cases_eq (length bytes) 20)
 
 -- all of it was taken
-end_first : (r : List ℕ) (a b : Option (List ℕ)) → Consumes a b r → IsAtEnd b → IfSome a (λ xs. take (length (records_of r)) (records_of xs) ≡ records_of r)
-end_first r None b c e = tt
-end_first r (Some xs) None c e = absurd c
-end_first r (Some xs) (Some ys) c e = ap (λ l. take (length (records_of r)) (records_of l)) (c ∙ ap (λ l. r ++ l) e ∙ append-nil r) ∙ take_all (length (records_of r)) (records_of r) (le_refl _)
+end_first : (r : List ℕ) (a b : Option (List ℕ)) → Consumes a b r → IsAtEnd b → AreFirst (records_of r) a
+end_first r a b c e = Consumes-whole a b r (λ xs. take (length (records_of r)) (records_of xs) ≡ records_of r) c e (take-length (records_of r))
 
 -- nothing of it was answered
-pub first_none : (a : Option (List ℕ)) → IfSome a (λ xs. take 0 (records_of xs) ≡ [])
+pub first_none : (a : Option (List ℕ)) → AreFirst [] a
 first_none None = tt
 first_none (Some xs) = refl
 
@@ -97,7 +79,7 @@ module _ {S V : Type 0} (m : S → Store) (p : V → Stamps) where
   -- A record's line
 
   -- a text grew by it
-  pub line_held : (e e' : Engine S V) (n : ℕ) (r : List ℕ) (b b' : List ℕ) (res : Result Done CallFault) (text text' : List ℕ) → Results m p e n r b res → Answers m p e e' n (r ∷ []) b b'
+  pub line_held : (e e' : Engine S V) (n : ℕ) (r : List ℕ) (b b' : List ℕ) (res : Result Done LineFault) (text text' : List ℕ) → Results m p e n r b res → Answers m p e e' n (r ∷ []) b b'
       → text' ≡ text ++ (line_text n res b' ++ codes "\n") → GrowsByLines m p e n (r ∷ []) b text text'
   line_held e e' n r b b' res text text' result answers is l f =
       is ∙ ap (λ x. text ++ x) (ap (λ x. line_text n x b' ++ codes "\n") (result l f) ∙ ap (λ x. line_text n (record_answer n l b (decoded r)).result x ++ codes "\n") (answers.buffer l f))
@@ -146,7 +128,7 @@ module _ {S V : Type 0} (m : S → Store) (p : V → Stamps) where
   answered_begun e e' rs b b' old mid new text before some l f = (
     before.written ++ some.0,
     Appends-trans old mid new _ _ before.appended some.1,
-    subst (λ ls. StartsWith ls (before.written ++ some.0)) (sym (before.lines l f)) (begun_on before.written text some.0 some.2),
+    subst (λ ls. StartsWith ls (before.written ++ some.0)) (sym (before.lines l f)) (take-behind before.written text some.0 some.2),
   )
 
   -- Many records
@@ -202,7 +184,7 @@ module _ {S V : Type 0} (m : S → Store) (p : V → Stamps) where
   stops_handing {e} {e'} {b} {b'} {left} {left'} {old} {mid} {new} {text} before some =
       let rs = before.done in record {
         done = rs;
-        first = subst (λ qs. IfSome left (λ xs. take (length qs) (records_of xs) ≡ qs)) (append-nil rs) (first_behind rs [] left left' before.full before.taken (first_none left'));
+        first = subst (λ qs. AreFirst qs left) (append-nil rs) (first_behind rs [] left left' before.full before.taken (first_none left'));
         taken = (concat rs, before.taken);
         answers = before.answered.answers;
         lines = answered_begun e e' rs b b' old mid new text before.answered some;
@@ -221,22 +203,22 @@ module _ {S V : Type 0} (m : S → Store) (p : V → Stamps) where
             let a = answer_from 1 l b rs in
             let more = (answer_from number a.ledger a.buffer stop.done).lines in
             let all = (joined rs stop.done 1 number before.count l b).2 ∙ ap (λ ls. ls ++ more) (done.lines l f) ∙ append_assoc done.written text more in
-            (done.written, done.appended, subst (λ ls. StartsWith ls done.written) (sym all) (starts_with-append done.written (text ++ more)));
+            (done.written, done.appended, subst (λ ls. StartsWith ls done.written) (sym all) (take-append_seam done.written (text ++ more)));
       }
 
   -- The end
 
   -- the records are over; the text holds what was not yet written of their lines
-  pub record Ended (e e' : Engine S V) (b b' : List ℕ) (left left' old new : Option (List ℕ)) (text : List ℕ) : Type 0 where
+  pub record Finished (e e' : Engine S V) (b b' : List ℕ) (left left' old new : Option (List ℕ)) (text : List ℕ) : Type 0 where
     pub bytes : List ℕ
     pub taken : Consumes left left' bytes
     pub all : length bytes < 2 ^ 64 → IsAtEnd left'
-    pub first : IfSome left (λ xs. take (length (records_of bytes)) (records_of xs) ≡ records_of bytes)
+    pub first : AreFirst (records_of bytes) left
     pub answered : Answered e e' (records_of bytes) b b' old new text
 
   -- the last record, or none
   pub last_progress : {e e' e'' : Engine S V} {number : ℕ} {b b' b'' : List ℕ} {left left' left'' old new : Option (List ℕ)} {text text' : List ℕ}
-      → Progress e e' number b b' left left' old new text → Advances m p e' e'' number b' b'' left' left'' text text' false → Ended e e'' b b'' left left'' old new text'
+      → Progress e e' number b b' left left' old new text → Advances m p e' e'' number b' b'' left' left'' text text' false → Finished e e'' b b'' left left'' old new text'
   last_progress {e} {e'} {e''} {number} {b} {b'} {b''} {left} {left'} {left''} {old} {new} {text} {text'} before next =
       let rs = before.done in
       let r = next.bytes in
@@ -245,13 +227,13 @@ module _ {S V : Type 0} (m : S → Store) (p : V → Stamps) where
         bytes = concat rs ++ r;
         taken = Consumes-trans left left' left'' _ _ before.taken next.taken;
         all = λ _. (next.short refl).1;
-        first = subst (λ qs. IfSome left (λ xs. take (length qs) (records_of xs) ≡ qs)) all (first_behind rs (records_of r) left left' before.full before.taken (end_first r left' left'' next.taken (next.short refl).1));
+        first = subst (λ qs. AreFirst qs left) all (first_behind rs (records_of r) left left' before.full before.taken (end_first r left' left'' next.taken (next.short refl).1));
         answered = subst (λ qs. Answered e e'' qs b b'' old new text') all (answered_join e e' e'' number rs (records_of r) b b' b'' old new text text' before.count before.answered next.answers next.lines);
       }
 
   -- the numbers are worn out
   pub worn_out : {e e' : Engine S V} {number : ℕ} {b b' : List ℕ} {left left' old new : Option (List ℕ)} {text : List ℕ} → 2 ^ 64 - 1 ≤ number
-      → Progress e e' number b b' left left' old new text → Ended e e' b b' left left' old new text
+      → Progress e e' number b b' left left' old new text → Finished e e' b b' left left' old new text
   worn_out {e} {e'} {number} {b} {b'} {left} {left'} {old} {new} {text} worn before =
       let rs = before.done in
       let all : rs ≡ records_of (concat rs) = sym (records_of-whole rs before.full) in
@@ -259,26 +241,26 @@ module _ {S V : Type 0} (m : S → Store) (p : V → Stamps) where
       record {
         bytes = concat rs;
         taken = before.taken;
-        first = subst (λ qs. IfSome left (λ xs. take (length qs) (records_of xs) ≡ qs)) (append-nil rs ∙ all) (first_behind rs [] left left' before.full before.taken (first_none left'));
+        first = subst (λ qs. AreFirst qs left) (append-nil rs ∙ all) (first_behind rs [] left left' before.full before.taken (first_none left'));
         all = λ few. absurd (omega (arith, long, few, worn, before.count));
         answered = subst (λ qs. Answered e e' qs b b' old new text) all before.answered;
       }
 
   -- the text was written, or begun
-  pub ended_written : {e e' : Engine S V} {b b' : List ℕ} {left left' old mid : Option (List ℕ)} {text : List ℕ} {T E : Type 0} (new : Option (List ℕ)) (result : Result T E) → Ended e e' b b' left left' old mid text
+  pub finished_written : {e e' : Engine S V} {b b' : List ℕ} {left left' old mid : Option (List ℕ)} {text : List ℕ} {T E : Type 0} (new : Option (List ℕ)) (result : Result T E) → Finished e e' b b' left left' old mid text
       → MatchResult result (λ _. Appends mid new text) (λ _. AppendsSome mid new text)
       → MatchResult result (λ _. GoesThrough m p e e' b b' left left' old new) (λ _. Stops m p e e' 1 b b' left left' old new)
-  ended_written {e} {e'} {b} {b'} {left} {left'} {old} {mid} {text} new result ended wrote =
-      let rs = records_of ended.bytes in
-      let done = ended.answered in MatchResult-weaker result wrote
+  finished_written {e} {e'} {b} {b'} {left} {left'} {old} {mid} {text} new result finished wrote =
+      let rs = records_of finished.bytes in
+      let done = finished.answered in MatchResult-weaker result wrote
       (λ _ all. record {
-        bytes = ended.bytes;
-        taken = ended.taken;
-        all = ended.all;
-        first = ended.first;
+        bytes = finished.bytes;
+        taken = finished.taken;
+        all = finished.all;
+        first = finished.first;
         file = record { answers = done.answers; lines = answered_whole e e' rs b b' old mid new text done all };
       })
-      (λ _ some. record { done = rs; first = ended.first; taken = (ended.bytes, ended.taken); answers = done.answers; lines = answered_begun e e' rs b b' old mid new text done some })
+      (λ _ some. record { done = rs; first = finished.first; taken = (finished.bytes, finished.taken); answers = done.answers; lines = answered_begun e e' rs b b' old mid new text done some })
 
   -- One record
 
@@ -335,7 +317,7 @@ module _ {S V : Type 0} (m : S → Store) (p : V → Stamps) where
     first = done.first;
     taken = (done.bytes, done.taken);
     answers = done.file.answers;
-    lines = λ l f. ((answer_from 1 l b (records_of done.bytes)).lines, Appends-kept old mid new _ (done.file.lines l f) kept, starts_with-all (answer_from 1 l b (records_of done.bytes)).lines);
+    lines = λ l f. ((answer_from 1 l b (records_of done.bytes)).lines, Appends-kept old mid new _ (done.file.lines l f) kept, take-length (answer_from 1 l b (records_of done.bytes)).lines);
   }
 
   -- what was written has left the buffer

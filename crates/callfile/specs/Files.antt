@@ -1,17 +1,17 @@
 -- The answer to a call file: a line for each of its records, and what its calls leave.
 use Rattle.std.specs.Prelude.{ℕ, zero, suc, ◌+◌, List, [], ◌∷◌, ◌++◌, Some, None, Err, codes, Option, Result}
 use Rattle.std.specs.List.{onto_first}
+use Rattle.std.specs.Result.{result_map_both}
 use Rattle.ledger.specs.declared.Call.{Call}
+use Rattle.ledger.specs.declared.Done.{Done}
 use Rattle.ledger.specs.Ledger.{Ledger}
 use Rattle.ledger.specs.Calls.{step}
 use Rattle.ledger.specs.History.{Made}
 use Rattle.records.specs.Format.{decoded}
-use Rattle.engine.specs.Serves.{made}
-use Rattle.callfile.specs.declared.fault.CallFault.{CallFault}
-use Rattle.callfile.specs.declared.fault.CallFault.TheVariants.{Malformed}
-use Rattle.callfile.specs.declared.line.Done.{Done}
+use Rattle.engine.specs.Steps.{call_made}
+use Rattle.answer_lines.specs.declared.LineFault.{LineFault}
+use Rattle.answer_lines.specs.declared.LineFault.TheVariants.{Malformed, Engine}
 use Rattle.callfile.specs.Lines.{line_text}
-use Rattle.callfile.specs.Answers.{done_by, carried}
 
 -- Records
 
@@ -29,7 +29,7 @@ records_of bytes = pieces 20 bytes
 
 -- what comes of one record: its result, the buffer and the ledger afterwards, and the calls made
 pub record RecordAnswer : Type 0 where
-  pub result : Result Done CallFault
+  pub result : Result Done LineFault
   pub buffer : List ℕ
   pub ledger : Ledger
   pub calls : List Made
@@ -39,7 +39,12 @@ abbrev pub record_answer : ℕ → Ledger → List ℕ → Option Call → Recor
 record_answer n l b None = record { result = Err (Malformed n); buffer = b; ledger = l; calls = [] }
 record_answer n l b (Some c) =
     let o = step l c b in
-    record { result = carried (done_by c o.answer); buffer = o.buffer; ledger = o.ledger; calls = made c b o.answer o.buffer ∷ [] }
+    record {
+      result = result_map_both (λ d. d) Engine o.answer;
+      buffer = o.buffer;
+      ledger = o.ledger;
+      calls = call_made c b o.answer o.buffer ∷ [];
+    }
 
 -- what comes of a file: its lines, the buffer and the ledger afterwards, and the calls made, newest first
 pub record FileAnswer : Type 0 where

@@ -1,6 +1,4 @@
-pub mod Faults
 pub mod Lines
-pub mod Answers
 pub mod Files
 pub mod Runs
 pub mod Steps

@@ -1,17 +1,12 @@
 -- The text of a line: the number of its record, a space, and the result.
-use Rattle.std.specs.Prelude.{ℕ, List, [], ◌∷◌, ◌++◌, take, Ok, Err, codes, decimal, Result}
-use Rattle.ledger.specs.Faults.{report_text}
+use Rattle.std.specs.Prelude.{ℕ, List, ◌++◌, take, Ok, Err, codes, decimal, Result}
+use Rattle.refusals.specs.Reports.{report_text}
+use Rattle.ledger.specs.declared.Done.{Done}
+use Rattle.ledger.specs.declared.Done.TheVariants.{Began, Read, Wrote, Ended, Aborted, Reclaimed}
 use Rattle.ledger.specs.declared.Verdict.{Verdict}
 use Rattle.ledger.specs.declared.Verdict.TheVariants.{Closed, Restart, Spent, Full, Committed}
-use Rattle.callfile.specs.declared.fault.CallFault.{CallFault}
-use Rattle.callfile.specs.declared.line.Done.{Done}
-use Rattle.callfile.specs.declared.line.Done.TheVariants.{Began, Read, Wrote, Ended, Aborted, Reclaimed}
-use Rattle.callfile.specs.Faults.{report}
-
--- a space before each value
-abbrev pub spaced : List ℕ → List ℕ
-spaced [] = []
-spaced (x ∷ xs) = codes " " ++ (decimal x ++ spaced xs)
+use Rattle.answer_lines.specs.declared.LineFault.{LineFault}
+use Rattle.answer_lines.specs.Lines.{line_report, spaced}
 
 abbrev pub verdict_text : Verdict → List ℕ
 verdict_text Closed = codes " closed"
@@ -29,9 +24,9 @@ done_text (Ended v) b = verdict_text v
 done_text Aborted b = codes " aborted"
 done_text (Reclaimed n) b = codes " reclaimed " ++ decimal n
 
-abbrev pub result_text : Result Done CallFault → List ℕ → List ℕ
+abbrev pub result_text : Result Done LineFault → List ℕ → List ℕ
 result_text (Ok d) b = done_text d b
-result_text (Err f) b = codes " refused " ++ report_text (report f)
+result_text (Err f) b = codes " refused " ++ report_text (line_report f)
 
-abbrev pub line_text : ℕ → Result Done CallFault → List ℕ → List ℕ
+abbrev pub line_text : ℕ → Result Done LineFault → List ℕ → List ℕ
 line_text n r b = decimal n ++ result_text r b

@@ -2,14 +2,14 @@
 use Rattle.std.specs.Prelude.{ℕ, ◌^◌, ◌<◌, List, length, replicate, IfSome, Option}
 use Rattle.std.specs.Io.KnownBytes.{Appends, Consumes}
 use Rattle.ledger.specs.Ledger.{Limits, new_ledger}
-use Rattle.versions.specs.Meaning.{Meaning as Store}
-use Rattle.validation.specs.Meaning.{Meaning as Stamps}
+use Rattle.versions.specs.Meaning.{Store}
+use Rattle.validation.specs.Meaning.{Stamps}
 use Rattle.engine.specs.Fits.{limits_of}
 use Rattle.engine.specs.SetUp.{last_of}
 use Rattle.callfile.specs.Files.{file_answer}
 use Rattle.callfile.specs.Runs.{AppendsSome}
 
--- 64 keys, each its own granule, 256 cells, and the greatest last tick
+-- 64 keys, each its own granule, 256 cells, and the greatest last tick; the sizes that the programs lend are held to these digits
 abbrev pub program_limits : Limits
 program_limits = record { keys = 64; cells = 256; last = 4294967294; granule = λ k. k }
 

@@ -2,20 +2,20 @@
 use Rattle.std.specs.Prelude.{◌≡◌, ℕ, List, ◌++◌, length, take, IfSome, Option, Result}
 use Rattle.std.specs.Io.{StartsWith}
 use Rattle.std.specs.Io.KnownBytes.{Appends, Consumes}
+use Rattle.ledger.specs.declared.Done.{Done}
 use Rattle.ledger.specs.Ledger.{Ledger, Limits}
 use Rattle.ledger.specs.History.{Made, after}
-use Rattle.versions.specs.Meaning.{Meaning as Store}
-use Rattle.validation.specs.Meaning.{Meaning as Stamps}
+use Rattle.versions.specs.Meaning.{Store}
+use Rattle.validation.specs.Meaning.{Stamps}
 use Rattle.engine.specs.declared.engine.Engine.{Engine}
 use Rattle.engine.specs.Parts.{FitsEngine}
-use Rattle.engine.specs.Serves.{Led, Lawfully, Idle}
+use Rattle.engine.specs.Steps.{Led, Lawfully, Idle}
 use Rattle.records.specs.Format.{decoded}
-use Rattle.callfile.specs.declared.fault.CallFault.{CallFault}
-use Rattle.callfile.specs.declared.line.Done.{Done}
+use Rattle.answer_lines.specs.declared.LineFault.{LineFault}
 use Rattle.callfile.specs.Files.{records_of, record_answer, answer_from}
 
 -- record n has this result, whatever ledger fits the engine before
-abbrev pub Results : {S V : Type 0} → (S → Store) → (V → Stamps) → Engine S V → ℕ → List ℕ → List ℕ → Result Done CallFault → Type 0
+abbrev pub Results : {S V : Type 0} → (S → Store) → (V → Stamps) → Engine S V → ℕ → List ℕ → List ℕ → Result Done LineFault → Type 0
 Results m p e n bytes b r = (l : Ledger) → FitsEngine m p l e → r ≡ (record_answer n l b (decoded bytes)).result
 
 -- From e to e' the records rs were answered, from number n on; b was in the buffer before, b' after. m and p are the meanings of the store and of the validator.
@@ -44,6 +44,10 @@ AppendsSomeLines m p e n rs b old new = (l : Ledger) → FitsEngine m p l e → 
 abbrev pub ConsumesSome : Option (List ℕ) → Option (List ℕ) → Type 0
 ConsumesSome old new = (bs : List ℕ) × Consumes old new bs
 
+-- these are the first of the records left, where it is known what is left
+abbrev pub AreFirst : List (List ℕ) → Option (List ℕ) → Type 0
+AreFirst rs left = IfSome left (λ bytes. take (length rs) (records_of bytes) ≡ rs)
+
 -- From e to e' a file was answered; what was written before was old, and is new.
 pub record AnswersFile {S V : Type 0} (m : S → Store) (p : V → Stamps) (e e' : Engine S V) (b b' : List ℕ) (old new : Option (List ℕ)) (bytes : List ℕ) : Type 0 where
   pub answers : Answers m p e e' 1 (records_of bytes) b b'
@@ -53,7 +57,7 @@ pub record AnswersFile {S V : Type 0} (m : S → Store) (p : V → Stamps) (e e'
 -- From e to e' the first of the records left, the next of which is number n, were answered, and then an error came.
 pub record Stops {S V : Type 0} (m : S → Store) (p : V → Stamps) (e e' : Engine S V) (n : ℕ) (b b' : List ℕ) (left left' old new : Option (List ℕ)) : Type 0 where
   pub done : List (List ℕ)
-  pub first : IfSome left (λ bytes. take (length done) (records_of bytes) ≡ done)
+  pub first : AreFirst done left
   pub taken : ConsumesSome left left'
   pub answers : Answers m p e e' n done b b'
   -- what was written is a beginning of their lines

@@ -1,13 +1,14 @@
 -- How a run comes through a call file, record by record.
-use Rattle.std.specs.Prelude.{◌≡◌, ℕ, ◌^◌, ◌<◌, Bool, true, false, List, ◌++◌, length, take, IfSome, Option}
+use Rattle.std.specs.Prelude.{◌≡◌, ℕ, ◌^◌, ◌<◌, Bool, true, false, List, ◌++◌, length, Option}
 use Rattle.std.specs.Io.KnownBytes.{Appends, Consumes, IsAtEnd}
 use Rattle.ledger.specs.Ledger.{Ledger}
-use Rattle.versions.specs.Meaning.{Meaning as Store}
-use Rattle.validation.specs.Meaning.{Meaning as Stamps}
+use Rattle.versions.specs.Meaning.{Store}
+use Rattle.validation.specs.Meaning.{Stamps}
 use Rattle.engine.specs.declared.engine.Engine.{Engine}
 use Rattle.engine.specs.Parts.{FitsEngine}
+use Rattle.records.specs.declared.codec.TheConstants.{RECORD}
 use Rattle.callfile.specs.Files.{records_of, answer_from}
-use Rattle.callfile.specs.Runs.{Answers, AnswersFile, ConsumesSome}
+use Rattle.callfile.specs.Runs.{Answers, AnswersFile, AreFirst, ConsumesSome}
 
 -- a text grows by the lines of the records rs, from number n on, whatever ledger fits the engine before
 abbrev pub GrowsByLines : {S V : Type 0} → (S → Store) → (V → Stamps) → Engine S V → ℕ → List (List ℕ) → List ℕ → List ℕ → List ℕ → Type 0
@@ -21,15 +22,15 @@ HandsOver text text' old new = (bs : List ℕ) × Appends old new bs × (text �
 pub record Advances {S V : Type 0} (m : S → Store) (p : V → Stamps) (e e' : Engine S V) (n : ℕ) (b b' : List ℕ) (left left' : Option (List ℕ)) (text text' : List ℕ) (is_whole : Bool) : Type 0 where
   pub bytes : List ℕ
   pub taken : Consumes left left' bytes
-  pub whole : is_whole ≡ true → length bytes ≡ 20
-  pub short : is_whole ≡ false → (length bytes < 20) × IsAtEnd left'
+  pub whole : is_whole ≡ true → length bytes ≡ RECORD
+  pub short : is_whole ≡ false → (length bytes < RECORD) × IsAtEnd left'
   pub answers : Answers m p e e' n (records_of bytes) b b'
   pub lines : GrowsByLines m p e n (records_of bytes) b text text'
 
 -- From e to e' the first of the records left, the next of which is number n, were answered, and then an error came.
 pub record Breaks {S V : Type 0} (m : S → Store) (p : V → Stamps) (e e' : Engine S V) (n : ℕ) (b b' : List ℕ) (left left' : Option (List ℕ)) : Type 0 where
   pub done : List (List ℕ)
-  pub first : IfSome left (λ bytes. take (length done) (records_of bytes) ≡ done)
+  pub first : AreFirst done left
   pub taken : ConsumesSome left left'
   pub answers : Answers m p e e' n done b b'
 
@@ -38,5 +39,5 @@ pub record GoesThrough {S V : Type 0} (m : S → Store) (p : V → Stamps) (e e'
   pub bytes : List ℕ
   pub taken : Consumes left left' bytes
   pub all : length bytes < 2 ^ 64 → IsAtEnd left'
-  pub first : IfSome left (λ xs. take (length (records_of bytes)) (records_of xs) ≡ records_of bytes)
+  pub first : AreFirst (records_of bytes) left
   pub file : AnswersFile m p e e' b b' old new bytes

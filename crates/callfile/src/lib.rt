@@ -5,7 +5,6 @@
 
 pub mod answer;
 pub mod examples;
-pub mod fault;
 pub mod line;
 pub mod sizes;
 pub mod stream;

@@ -96,7 +96,7 @@ fn hand_over<R: Read, W: Write + Drop>(
         (writer_contents W.contents output.old) (writer_contents W.contents output.new))
         (λ _. AppendsSome (writer_contents W.contents output.old)
         (writer_contents W.contents output.new) (string_bytes text.old)) }
-    ensures flushed { OnOk result (length (reader_buffer input.now) < 20 →
+    ensures flushed { OnOk result (length (reader_buffer input.now) < RECORD →
         (string_bytes text.new ≡ []) × (writer_buffer output.new ≡ [])) }
     ensures few { OnOk result (length (string_bytes text.new) < HELD) }
 {

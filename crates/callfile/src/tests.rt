@@ -21,11 +21,19 @@ fn records(alloc: Global) -> io::Result<Vec<u8>> {
     records.extend_from_slice(&[8; RECORD])?;
     for call in [
         Call::Begin(Kind::Updater),
-        Call::Write(1, 2, 54),
-        Call::Commit(1),
+        Call::Write {
+            handle: 1,
+            key: 2,
+            value: 54,
+        },
+        Call::Commit { handle: 1 },
         Call::Begin(Kind::Reader),
-        Call::Read(3, 2, 2),
-        Call::Abort(3),
+        Call::Read {
+            handle: 3,
+            first: 2,
+            count: 2,
+        },
+        Call::Abort { handle: 3 },
     ] {
         records.extend_from_slice(&encode(call))?;
     }

@@ -1,5 +1,4 @@
 ghost use Rattle.std.specs.Prelude.{◌≡◌, Some};
-ghost use Rattle.std.specs.Result.{result_ok};
 ghost use Rattle.records.specs.Format.{decoded, call_of, encoded, fields_of, laid_out};
 
 use ledger::{Call, Kind};
@@ -14,18 +13,14 @@ pub fn decode(bytes: &[u8]) -> Option<Call>
     let [kind, 0, k0, k1, c0, c1, 0, 0, h0, h1, h2, h3, rest @ ..] = bytes else {
         return None;
     };
-    let key = u16::from_le_bytes([*k0, *k1]);
-    let count = u16::from_le_bytes([*c0, *c1]);
-    let handle = u32::from_le_bytes([*h0, *h1, *h2, *h3]);
-    let value = u64::from_le_bytes(rest.try_into().ok()?);
     let fields = Fields {
         kind: *kind,
-        key,
-        count,
-        handle,
-        value,
+        key: u16::from_le_bytes([*k0, *k1]),
+        count: u16::from_le_bytes([*c0, *c1]),
+        handle: u32::from_le_bytes([*h0, *h1, *h2, *h3]),
+        value: u64::from_le_bytes(rest.try_into().ok()?),
     };
-    Call::try_from(fields).ok()
+    fields.call()
 }
 
 /// The record that asks for a call.
@@ -46,10 +41,6 @@ struct Fields {
     value: u64,
 }
 
-/// No kind has these fields.
-#[derive(Clone, Copy)]
-struct Malformed;
-
 // The kinds' numbers are the format's: they stand in this table and in the one back, and nowhere else.
 // Both are of tuples, so that their lines read alike.
 impl From<Call> for Fields {
@@ -59,10 +50,14 @@ impl From<Call> for Fields {
         let (kind, key, count, handle, value) = match call {
             Call::Begin(Kind::Reader) => (1, 0, 0, 0, 0),
             Call::Begin(Kind::Updater) => (2, 0, 0, 0, 0),
-            Call::Read(handle, first, count) => (3, first, count, handle, 0),
-            Call::Write(handle, key, value) => (4, key, 0, handle, value),
-            Call::Commit(handle) => (5, 0, 0, handle, 0),
-            Call::Abort(handle) => (6, 0, 0, handle, 0),
+            Call::Read {
+                handle,
+                first,
+                count,
+            } => (3, first, count, handle, 0),
+            Call::Write { handle, key, value } => (4, key, 0, handle, value),
+            Call::Commit { handle } => (5, 0, 0, handle, 0),
+            Call::Abort { handle } => (6, 0, 0, handle, 0),
             Call::Reclaim => (7, 0, 0, 0, 0),
         };
         Fields {
@@ -75,33 +70,34 @@ impl From<Call> for Fields {
     }
 }
 
-impl TryFrom<Fields> for Call {
-    type Error = Malformed;
-
-    ghost try_from_gives = { λ fields call. result_ok call ≡ call_of fields };
-
-    fn try_from(fields: Fields) -> Result<Call, Malformed> {
+impl Fields {
+    /// The call that they say; none where no kind has these fields.
+    fn call(self) -> Option<Call>
+        ensures { result ≡ call_of self }
+    {
         let Fields {
             kind,
             key,
             count,
             handle,
             value,
-        } = fields;
+        } = self;
         match (kind, key, count, handle, value) {
-            (1, 0, 0, 0, 0) => Ok(Call::Begin(Kind::Reader)),
-            (2, 0, 0, 0, 0) => Ok(Call::Begin(Kind::Updater)),
-            (3, first, count, handle, 0) => Ok(Call::Read(handle, first, count)),
-            (4, key, 0, handle, value) => Ok(Call::Write(handle, key, value)),
-            (5, 0, 0, handle, 0) => Ok(Call::Commit(handle)),
-            (6, 0, 0, handle, 0) => Ok(Call::Abort(handle)),
-            (7, 0, 0, 0, 0) => Ok(Call::Reclaim),
-            _ => Err(Malformed),
+            (1, 0, 0, 0, 0) => Some(Call::Begin(Kind::Reader)),
+            (2, 0, 0, 0, 0) => Some(Call::Begin(Kind::Updater)),
+            (3, first, count, handle, 0) => Some(Call::Read {
+                handle,
+                first,
+                count,
+            }),
+            (4, key, 0, handle, value) => Some(Call::Write { handle, key, value }),
+            (5, 0, 0, handle, 0) => Some(Call::Commit { handle }),
+            (6, 0, 0, handle, 0) => Some(Call::Abort { handle }),
+            (7, 0, 0, 0, 0) => Some(Call::Reclaim),
+            _ => None,
         }
     }
-}
 
-impl Fields {
     fn lay_out(self) -> [u8; RECORD]
         ensures { result ≡ laid_out self }
     {

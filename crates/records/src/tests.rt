@@ -3,7 +3,11 @@ use ledger::Call;
 
 #[test]
 fn lays_fields_out(rt: HostRuntime) {
-    let write = Call::Write(0x0403_0201, 0x0605, 0x0e0d_0c0b_0a09_0807);
+    let write = Call::Write {
+        handle: 0x0403_0201,
+        key: 0x0605,
+        value: 0x0e0d_0c0b_0a09_0807,
+    };
     assert_eq!(rt;
         encode(write),
         [
@@ -11,7 +15,11 @@ fn lays_fields_out(rt: HostRuntime) {
         ]
     );
     assert_eq!(rt;
-        encode(Call::Read(9, 0x0201, 0x0403)),
+        encode(Call::Read {
+            handle: 9,
+            first: 0x0201,
+            count: 0x0403
+        }),
         [3, 0, 1, 2, 3, 4, 0, 0, 9, 0, 0, 0, 0, 0, 0, 0, 0, 0, 0, 0]
     );
 }

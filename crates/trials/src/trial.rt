@@ -5,7 +5,7 @@ ghost use Rattle.std.specs.declared.io.ErrorKind.TheVariants.{InvalidData};
 ghost use Rattle.std.specs.declared.num.ParseIntError.{ParseIntError};
 ghost use Rattle.trials.specs.declared.trial.SettingError.TheVariants.{Short, Number};
 ghost use Rattle.trials.specs.Setting.{Gives, GivesNone};
-ghost use Rattle.trials.specs.Runs.{tally_over, log_made, chain_made, tables_tally, lists_tally, pairs_tally};
+ghost use Rattle.trials.specs.Runs.{tally_over, new_log_store, new_chain_store, tables_tally, lists_tally, pairs_tally};
 ghost use Rattle.trials.specs.Tally.{run_tally};
 
 use crate::tally::Tally;
@@ -151,7 +151,7 @@ impl Trial<'_> {
     fn over_log<V: Validator + Drop>(self, validator: V) -> io::Result<Tally>
         ensures { IfOk result (λ t. t ≡ tally_over self.entry.setting
             self.entry.calls.now self.entry.expected.now
-            (log_made self.entry.setting) (V.meaning validator)) }
+            (new_log_store self.entry.setting) (V.meaning validator)) }
     {
         let Setting { keys, cells, .. } = self.setting;
         let mut cells = vec![in self.heap; Version::CLEARED; cells]?;
@@ -161,7 +161,7 @@ impl Trial<'_> {
     fn over_chain<V: Validator + Drop>(self, validator: V) -> io::Result<Tally>
         ensures { IfOk result (λ t. t ≡ tally_over self.entry.setting
             self.entry.calls.now self.entry.expected.now
-            (chain_made self.entry.setting) (V.meaning validator)) }
+            (new_chain_store self.entry.setting) (V.meaning validator)) }
     {
         let Setting { keys, cells, .. } = self.setting;
         let mut heads = vec![in self.heap; None; usize::from(keys)]?;

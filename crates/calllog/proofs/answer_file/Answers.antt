@@ -1,43 +1,18 @@
 use Rattle.std.specs.Io.Buffered.{reader_remaining, writer_contents}
-use Rattle.std.proofs.Common.{replicate}
-use Rattle.std.proofs.lemmas.Result.{on_ok_weaker, on_err_weaker}
+use Rattle.std.proofs.Common.{refl}
 use Rattle.versions.specs.LogStores.{log_meaning}
 use Rattle.validation.specs.RecentLists.{list_meaning}
+use Rattle.engine.specs.declared.engine.TheConstants.{LAST_TICK}
 use Rattle.callfile.specs.Programs.{program_limits}
-use Rattle.callfile.proofs.Programs.{made_with, file_lines, known_lines, begun_lines}
-use Rattle.calllog.proofs.Limits.{store, stamps, limits}
+use Rattle.engine.proofs.SetUps.{made_with}
+use Rattle.callfile.proofs.Programs.{writes}
 use Rattle.calllog.proofs.answer_file.Goals as goal
 
-pub returns-clause-all : goal.returns-clause-all
-returns-clause-all g c =
-    let e = c.make-engine.result in
-    let made = made_with log_meaning list_meaning program_limits 4294967294 store stamps c.make-store.result c.make-validator.result e limits c.make-store.ensures.empty c.make-validator.ensures.fresh
-    c.make-engine.ensures.fits c.make-engine.ensures.store c.make-engine.ensures.validator c.make-engine.ensures.last in
-    on_ok_weaker c.run.result
-    (λ h. known_lines log_meaning list_meaning program_limits e c.run.new.engine (replicate 64 0) c.run.new.buffer
-    (reader_remaining g.R.Read.remaining c.args.input.now) (writer_contents g.W.Write.contents c.args.output.now) (writer_contents g.W.Write.contents c.run.new.output) made h)
-    c.run.ensures.file
-
-pub returns-clause-taken : goal.returns-clause-taken
-returns-clause-taken g c =
-    let e = c.make-engine.result in
-    let made = made_with log_meaning list_meaning program_limits 4294967294 store stamps c.make-store.result c.make-validator.result e limits c.make-store.ensures.empty c.make-validator.ensures.fresh
-    c.make-engine.ensures.fits c.make-engine.ensures.store c.make-engine.ensures.validator c.make-engine.ensures.last in
-    on_ok_weaker c.run.result
-    (λ h. (
-      h.0,
-      h.1,
-      file_lines log_meaning list_meaning program_limits e c.run.new.engine (replicate 64 0) c.run.new.buffer
-          (writer_contents g.W.Write.contents c.args.output.now) (writer_contents g.W.Write.contents c.run.new.output) h.0 made h.2,
-    ))
-    c.run.ensures.taken
-
-pub returns-clause-err : goal.returns-clause-err
-returns-clause-err g c =
-    let e = c.make-engine.result in
-    let made = made_with log_meaning list_meaning program_limits 4294967294 store stamps c.make-store.result c.make-validator.result e limits c.make-store.ensures.empty c.make-validator.ensures.fresh
-    c.make-engine.ensures.fits c.make-engine.ensures.store c.make-engine.ensures.validator c.make-engine.ensures.last in
-    on_err_weaker c.run.result
-    (λ h. begun_lines log_meaning list_meaning program_limits e c.run.new.engine (replicate 64 0) c.run.new.buffer
-    (reader_remaining g.R.Read.remaining c.args.input.now) _ (writer_contents g.W.Write.contents c.args.output.now) (writer_contents g.W.Write.contents c.run.new.output) made h)
-    c.run.ensures.err
+pub returns : goal.returns
+returns g c =
+    let engine = c.make-engine.ensures in
+    let fits = made_with log_meaning list_meaning program_limits LAST_TICK _ _ c.make-store.result c.make-validator.result c.make-engine.result refl c.make-store.ensures.empty c.make-validator.ensures.fresh engine.fits engine.store engine.validator engine.last in
+    let run = c.run.ensures in
+    let written = writes log_meaning list_meaning c.make-engine.result c.run.new.engine c.run.new.buffer (reader_remaining g.R.Read.remaining c.args.input.now) (reader_remaining g.R.Read.remaining c.run.new.input)
+    (writer_contents g.W.Write.contents c.args.output.now) (writer_contents g.W.Write.contents c.run.new.output) c.run.result fits run.file run.taken run.err in
+    record { all = written.all; taken = written.taken; flushed = run.flushed; err = written.err }

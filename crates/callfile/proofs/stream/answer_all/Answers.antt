@@ -2,7 +2,7 @@ use Rattle.std.specs.Io.Buffered.{writer_contents}
 use Rattle.std.proofs.Common.{subst}
 use Rattle.std.proofs.lemmas.Result.{MatchResult-from_err}
 use Rattle.callfile.specs.Steps.{Advances}
-use Rattle.callfile.proofs.Running.{no_progress, handed_progress, more_progress, last_progress, worn_out, stops_handing, stops_behind, ended_written}
+use Rattle.callfile.proofs.Running.{no_progress, handed_progress, more_progress, last_progress, worn_out, stops_handing, stops_behind, finished_written}
 use Rattle.callfile.proofs.stream.answer_all.Goals as goal
 
 pub loop-number-init : goal.loop-number-init
@@ -24,7 +24,7 @@ pub returns-then-not-branch : goal.returns-then-not-branch
 returns-then-not-branch g c =
     let m = g.S.VersionStore.meaning in
     let p = g.V.Validator.meaning in
-    ended_written m p (writer_contents g.W.Write.contents c.write_lines.new.output) c.write_lines.result
+    finished_written m p (writer_contents g.W.Write.contents c.write_lines.new.output) c.write_lines.result
     (last_progress m p (handed_progress m p c.loop-number.invariant c.in_ok-hand_over.ensures.bytes)
     (subst (Advances m p _ _ _ _ _ _ _ _ _) c.if-not-branch.true c.in_ok-answer_next.ensures))
     c.write_lines.ensures.bytes
@@ -40,6 +40,6 @@ pub returns : goal.returns
 returns g c =
     let m = g.S.VersionStore.meaning in
     let p = g.V.Validator.meaning in
-    ended_written m p (writer_contents g.W.Write.contents c.write_lines-2.new.output) c.write_lines-2.result
+    finished_written m p (writer_contents g.W.Write.contents c.write_lines-2.new.output) c.write_lines-2.result
     (worn_out m p c.loop-number-test.false c.loop-number.invariant)
     c.write_lines-2.ensures.bytes

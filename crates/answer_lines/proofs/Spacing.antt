@@ -1,7 +1,7 @@
 -- Values written one after another, a space before each.
 use Rattle.std.proofs.Common.{◌≡◌, ℕ, ◌+◌, ◌<◌, List, [], ◌∷◌, ◌++◌, length, get_or, take, codes, decimal, sym, refl, ap, ◌∙◌, append_assoc, append-nil}
 use Rattle.std.proofs.lemmas.List.{take_more}
-use Rattle.callfile.specs.Lines.{spaced}
+use Rattle.answer_lines.specs.Lines.{spaced}
 
 spaced_push : (xs : List ℕ) (x : ℕ) → spaced (xs ++ (x ∷ [])) ≡ spaced xs ++ (codes " " ++ decimal x)
 spaced_push [] x = rw append-nil refl

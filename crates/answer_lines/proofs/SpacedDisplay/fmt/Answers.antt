@@ -1,7 +1,7 @@
 use Rattle.std.proofs.Common.{is_ok, ap, arith}
 use Rattle.std.proofs.Output.{has_written_append, has_written_of_eq}
-use Rattle.callfile.proofs.Spacing.{spaced_more}
-use Rattle.callfile.proofs.line.SpacedDisplay.fmt.Goals as goal
+use Rattle.answer_lines.proofs.Spacing.{spaced_more}
+use Rattle.answer_lines.proofs.SpacedDisplay.fmt.Goals as goal
 
 pub loop-value-preserved : goal.loop-value-preserved
 loop-value-preserved g c = λ plain.
