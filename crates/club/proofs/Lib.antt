@@ -1,8 +1,8 @@
 mod Agreements
-mod Means
+mod Indexes
+mod Lines
 mod Moments
-mod Performances
 mod Recalculations
+mod TextLines
 mod Texts
-mod Words
 pub mod Afternoons

@@ -6,7 +6,7 @@ use Rattle.ledger.specs.declared.Verdict.{Verdict}
 use Rattle.ledger.specs.declared.Verdict.TheVariants.{Restart}
 use Rattle.club.specs.declared.said.Recalculation.{Recalculation}
 use Rattle.club.specs.declared.said.Said.TheVariants.{AlreadyOpen, Ended}
-use Rattle.club.specs.Procedures.{pure}
+use Rattle.procedures.specs.Procedures.{pure}
 use Rattle.club.specs.Events.{recalculated, redone_if_restarted}
 
 pub stays_open : (k n x : ℕ) (o : Option Recalculation) → is_some o ≡ true → recalculated k n x o ≡ pure (Ok AlreadyOpen, o)

@@ -2,21 +2,21 @@
 use Rattle.std.specs.Prelude.{◌≡◌, ℕ, ◌+◌, List, [], ◌∷◌, ◌++◌, length, None, Option, Result, codes, decimal}
 use Rattle.std.specs.Io.KnownBytes.{Appends}
 use Rattle.ledger.specs.Ledger.{Ledger}
-use Rattle.versions.specs.Meaning.{Meaning as Store}
-use Rattle.validation.specs.Meaning.{Meaning as Stamps}
+use Rattle.versions.specs.Meaning.{Store}
+use Rattle.validation.specs.Meaning.{Stamps}
 use Rattle.engine.specs.Parts.{FitsEngine}
-use Rattle.callfile.specs.declared.fault.CallFault.{CallFault}
+use Rattle.answer_lines.specs.declared.LineFault.{LineFault}
 use Rattle.club.specs.declared.desk.Desk.{Desk}
 use Rattle.club.specs.declared.event.Event.{Event}
 use Rattle.club.specs.declared.said.Recalculation.{Recalculation}
 use Rattle.club.specs.declared.said.Said.{Said}
 use Rattle.club.specs.Lines.{event}
-use Rattle.club.specs.Procedures.{Procedure, pure, ◌>>=◌, Performs}
+use Rattle.procedures.specs.Procedures.{Procedure, pure, ◌>>=◌, Performs}
 use Rattle.club.specs.Events.{engine_of, pending_of, answered}
 use Rattle.club.specs.Texts.{answer_text}
 
 -- what is written for line n: its number, a space, and the words of what it did
-abbrev pub answer_line : ℕ → Result Said CallFault → List ℕ
+abbrev pub answer_line : ℕ → Result Said LineFault → List ℕ
 answer_line n r = decimal n ++ (codes " " ++ (answer_text r ++ codes "\n"))
 
 -- what is written for the lines from number n on, where w is open, and what is open afterwards
@@ -58,8 +58,8 @@ pub record AnswersLines {S V S' V' : Type 0} (m : S → Store) (p : V → Stamps
 
 -- the same of one line, number n, which tells of this event
 pub record AnswersOnBoth {S V S' V' : Type 0} (m : S → Store) (p : V → Stamps) (m' : S' → Store) (p' : V' → Stamps) (d k : Desk S V) (d' k' : Desk S' V') (n : ℕ) (e : Option Event) (old new : Option (List ℕ)) (apart : ℕ) : Type 0 where
-  pub said : Result Said CallFault
-  pub other_said : Result Said CallFault
+  pub said : Result Said LineFault
+  pub other_said : Result Said LineFault
   pub one : Performs m p (engine_of d) (engine_of k) (answered n (pending_of d) e) (said, pending_of k)
   pub other : Performs m' p' (engine_of d') (engine_of k') (answered n (pending_of d') e) (other_said, pending_of k')
   pub agree : said ≡ other_said → apart ≡ 0

@@ -6,11 +6,11 @@ use Rattle.ledger.specs.declared.Kind.TheVariants.{Reader}
 use Rattle.ledger.specs.declared.Fault.{Fault}
 use Rattle.ledger.specs.declared.Verdict.{Verdict}
 use Rattle.ledger.specs.declared.Verdict.TheVariants.{Restart}
-use Rattle.versions.specs.Meaning.{Meaning as Store}
-use Rattle.validation.specs.Meaning.{Meaning as Stamps}
+use Rattle.versions.specs.Meaning.{Store}
+use Rattle.validation.specs.Meaning.{Stamps}
 use Rattle.engine.specs.declared.engine.Engine.{Engine}
-use Rattle.callfile.specs.declared.fault.CallFault.{CallFault}
-use Rattle.callfile.specs.declared.fault.CallFault.TheVariants.{Malformed, Engine as InEngine}
+use Rattle.answer_lines.specs.declared.LineFault.{LineFault}
+use Rattle.answer_lines.specs.declared.LineFault.TheVariants.{Malformed, Engine as InEngine}
 use Rattle.club.specs.declared.desk.Desk.{Desk}
 use Rattle.club.specs.declared.event.Event.{Event}
 use Rattle.club.specs.declared.event.Event.TheVariants.{Card, Correction, Recalculation as ToRecalculate, Finish, List as ToList, Report, Show, Close, CleanUp}
@@ -18,8 +18,9 @@ use Rattle.club.specs.declared.said.Recalculation.{Recalculation}
 use Rattle.club.specs.declared.said.Said.{Said}
 use Rattle.club.specs.declared.said.Said.TheVariants.{Card as SaidCard, Recalculation as SaidOpen, AlreadyOpen, NoneOpen, Ended as SaidEnded, Restarted, Report as SaidReport, Removed}
 use Rattle.club.specs.Moments.{ShowsNow, ShowsOpening}
-use Rattle.club.specs.Procedures.{Procedure, pure, ◌>>=◌, begin, commit, reclaim}
-use Rattle.club.specs.Transactions.{and_then, said, finished, posted, corrected, worked_out, redone, listed, shown}
+use Rattle.procedures.specs.Procedures.{Procedure, pure, ◌>>=◌, begin, commit, reclaim, and_then}
+use Rattle.procedures.specs.Updates.{commit_with_write}
+use Rattle.club.specs.Transactions.{posted, corrected, worked_out, redone, listed, report_shown}
 
 -- the engine of a desk, and the recalculation that is open there
 abbrev pub engine_of : {S V : Type 0} → Desk S V → Engine S V
@@ -51,7 +52,7 @@ redone_if_restarted w verdict = pure (Ok (SaidEnded verdict))
 abbrev pub work_finished : Option Recalculation → Procedure (Result Said Fault)
 work_finished None = pure (Ok NoneOpen)
 work_finished (Some w) = do
-  end ← finished w.handle w.index w.value
+  end ← commit_with_write w.handle w.index w.value
   and_then end (redone_if_restarted w)
 
 -- what an event does where w is open
@@ -61,13 +62,13 @@ acted (Correction k x) w = do r ← corrected k x; pure (r, w)
 acted (ToRecalculate k n x) w = recalculated k n x w
 acted Finish w = do r ← work_finished w; pure (r, None)
 acted ToList w = do r ← listed; pure (r, w)
-acted Report w = do h ← begin Reader; pure (said SaidReport h, w)
-acted (Show h) w = do r ← shown h; pure (r, w)
-acted (Close h) w = do end ← commit h; pure (said SaidEnded end, w)
+acted Report w = do h ← begin Reader; pure (result_map_both SaidReport (λ e. e) h, w)
+acted (Show h) w = do r ← report_shown h; pure (r, w)
+acted (Close h) w = do end ← commit h; pure (result_map_both SaidEnded (λ e. e) end, w)
 acted CleanUp w = do n ← reclaim; pure (Ok (Removed n), w)
 
 -- what the line of this number does where w is open: what its event does, a fault of the engine carried up whole; a line that tells of none is refused
-abbrev pub answered : ℕ → Option Recalculation → Option Event → Procedure (Result Said CallFault × Option Recalculation)
+abbrev pub answered : ℕ → Option Recalculation → Option Event → Procedure (Result Said LineFault × Option Recalculation)
 answered number w None = pure (Err (Malformed number), w)
 answered number w (Some e) = do
   r ← acted e w

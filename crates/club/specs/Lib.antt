@@ -3,6 +3,5 @@ pub mod Events
 pub mod Indexes
 pub mod Lines
 pub mod Moments
-pub mod Procedures
 pub mod Texts
 pub mod Transactions

@@ -1,9 +1,10 @@
 -- The lines of text that tell of a club's afternoon: a word for the event, and its numbers, a space between.
-use Rattle.std.specs.Prelude.{ℕ, ◌+◌, ◌-◌, ◌*◌, Bool, true, false, if◌then◌else◌, ◌&&◌, List, [], ◌∷◌, length, take, Some, None, codes, Option, Ok, Err, Result, ◌==◌, nat_le}
-use Rattle.std.specs.Bool.{⊤}
+use Rattle.std.specs.Prelude.{ℕ, ◌+◌, ◌-◌, ◌*◌, if◌then◌else◌, ◌&&◌, List, [], ◌∷◌, length, take, Some, None, codes, Option, ◌==◌, nat_le}
 use Rattle.std.specs.Io.BufRead.{ends_with_byte}
 use Rattle.std.specs.Str.Lines.{strip_carriage_return}
-use Rattle.std.specs.Option.{option_map}
+use Rattle.std.specs.Option.{option_map, option_zip}
+use Rattle.std.specs.List.{before_first, after_first}
+use Rattle.std.specs.Str.{bytes_eq}
 use Rattle.club.specs.declared.event.Event.{Event}
 use Rattle.club.specs.declared.line.Verb.{Verb}
 use Rattle.club.specs.declared.line.Verb.TheVariants.{Card as ToPost, Correct as ToCorrect, Recalculate as ToRecalculate, Finish as ToFinish, List as ToList, Report as ToReport, Show as ToShow, Close as ToClose, CleanUp as ToClean}
@@ -15,13 +16,11 @@ text_of l = if ends_with_byte 10 l then strip_carriage_return (take (length l - 
 
 -- what stands before the first space
 abbrev pub word : List ℕ → List ℕ
-word [] = []
-word (c ∷ cs) = if c == 32 then [] else (c ∷ word cs)
+word line = before_first (λ c. c == 32) line
 
 -- what stands behind the first space
 abbrev pub behind : List ℕ → List ℕ
-behind [] = []
-behind (c ∷ cs) = if c == 32 then cs else behind cs
+behind line = after_first (λ c. c == 32) line
 
 -- the number that more digits make of n, if it is at most the given one
 abbrev pub digits_on : ℕ → List ℕ → ℕ → Option ℕ
@@ -35,34 +34,6 @@ abbrev pub number : List ℕ → ℕ → Option ℕ
 number [] most = None
 number (c ∷ cs) most = digits_on 0 (c ∷ cs) most
 
-abbrev pub same : List ℕ → List ℕ → Bool
-same [] [] = true
-same [] (y ∷ ys) = false
-same (x ∷ xs) [] = false
-same (x ∷ xs) (y ∷ ys) = x == y && same xs ys
-
--- both, if both are there
-abbrev pub both : Option ℕ → Option ℕ → Option (ℕ × ℕ)
-both None y = None
-both (Some x) None = None
-both (Some x) (Some y) = Some (x, y)
-
--- all three, if all are there
-abbrev pub three : Option ℕ → Option (ℕ × ℕ) → Option (ℕ × ℕ × ℕ)
-three None y = None
-three (Some x) None = None
-three (Some x) (Some p) = Some (x, p.0, p.1)
-
--- a number converted to a type that may not hold it: `gives` says what the conversion answers
-abbrev pub Converted : {N E : Type 0} → (ℕ → Result N E → Type 0) → Option ℕ → Option N → Type 0
-Converted gives None None = ⊤
-Converted gives None (Some x) = ⊥
-Converted {E} gives (Some n) None = (e : E) × gives n (Err e)
-Converted gives (Some n) (Some x) = gives n (Ok x)
-
-pub record Converts {N E : Type 0} (gives : ℕ → Result N E → Type 0) (n : Option ℕ) (r : Option N) : Type 0 where
-  pub is : Converted gives n r
-
 -- a key or a count of 16 bits
 abbrev pub short : List ℕ → Option ℕ
 short digits = number digits 65535
@@ -73,23 +44,25 @@ handle digits = number digits 4294967295
 
 -- a key, and a value of 64 bits
 abbrev pub card : List ℕ → Option (ℕ × ℕ)
-card args = both (short (word args)) (number (behind args) 18446744073709551615)
+card args = option_zip (short (word args)) (number (behind args) 18446744073709551615)
 
 -- the first key of a run of rounds, their count, and the key of the index
 abbrev pub rounds : List ℕ → Option (ℕ × ℕ × ℕ)
-rounds args = three (short (word args)) (both (short (word (behind args))) (short (behind (behind args))))
+rounds args =
+    let keys = option_zip (short (word (behind args))) (short (behind (behind args))) in
+    option_map (λ r. (r.0, r.1.0, r.1.1)) (option_zip (short (word args)) keys)
 
 abbrev pub verb : List ℕ → Option Verb
 verb w =
-    if same w (codes "card") then Some ToPost
-    else if same w (codes "correct") then Some ToCorrect
-    else if same w (codes "recalculate") then Some ToRecalculate
-    else if same w (codes "finish") then Some ToFinish
-    else if same w (codes "list") then Some ToList
-    else if same w (codes "report") then Some ToReport
-    else if same w (codes "show") then Some ToShow
-    else if same w (codes "close") then Some ToClose
-    else if same w (codes "clean") then Some ToClean
+    if bytes_eq w (codes "card") then Some ToPost
+    else if bytes_eq w (codes "correct") then Some ToCorrect
+    else if bytes_eq w (codes "recalculate") then Some ToRecalculate
+    else if bytes_eq w (codes "finish") then Some ToFinish
+    else if bytes_eq w (codes "list") then Some ToList
+    else if bytes_eq w (codes "report") then Some ToReport
+    else if bytes_eq w (codes "show") then Some ToShow
+    else if bytes_eq w (codes "close") then Some ToClose
+    else if bytes_eq w (codes "clean") then Some ToClean
     else None
 
 -- nothing may follow the word of an event without numbers

@@ -1,19 +1,20 @@
 -- What a list of the club shows: one moment of it.
 use Rattle.std.specs.Prelude.{◌≡◌, ℕ, ◌-◌, false, List, map}
 use Rattle.ledger.specs.Ledger.{Limits}
-use Rattle.ledger.specs.Calls.{keys_from}
+use Rattle.std.specs.List.{range_with_len}
 use Rattle.ledger.specs.History.{Made, after, updater_in}
 use Rattle.ledger.specs.Serial.{Table, table}
-use Rattle.versions.specs.Meaning.{Meaning as Store}
-use Rattle.validation.specs.Meaning.{Meaning as Stamps}
+use Rattle.versions.specs.Meaning.{Store}
+use Rattle.validation.specs.Meaning.{Stamps}
 use Rattle.engine.specs.declared.engine.Engine.{Engine}
-use Rattle.engine.specs.Serves.{Led}
+use Rattle.engine.specs.Steps.{Led}
+use Rattle.club.specs.declared.said.TheConstants.{KEYS}
 use Rattle.club.specs.declared.said.Said.{Said}
 use Rattle.club.specs.declared.said.Said.TheVariants.{Values}
 
 -- the club's values in a table, by rising key
 abbrev pub club_in : Table → List ℕ
-club_in v = map v (keys_from 0 8)
+club_in v = map v (range_with_len 0 KEYS)
 
 -- the club as the transactions so far left it, whatever history led to the engine
 abbrev pub ShowsNow : {S V : Type 0} → (S → Store) → (V → Stamps) → Engine S V → Said → Type 0

@@ -8,7 +8,7 @@ ghost use Rattle.club.specs.Lines.{event, text_of};
 ghost use Rattle.club.specs.Afternoons.{AnswersLines, AnswersOnBoth, TellsAfternoon};
 
 use crate::desk::Desk;
-use crate::said::Told;
+use crate::said::Spoken;
 use std::alloc::Global;
 use std::io;
 use std::io::{BufRead, BufReader, BufWriter, Read, Write};
@@ -132,8 +132,8 @@ fn answer_line<S: VersionStore, V: Validator, T: VersionStore, U: Validator, W: 
         one.old one.new other.old other.new number (event line.now)
         (W.contents output.old) (W.contents output.new)) }
 {
-    let said = Told(one.answer(number, line));
-    let says = Told(other.answer(number, line));
+    let said = Spoken(one.answer(number, line));
+    let says = Spoken(other.answer(number, line));
     writeln!(output, "{number} {said}")?;
     if are_same(&said, &says) {
         return Ok(0);

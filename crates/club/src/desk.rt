@@ -2,16 +2,17 @@
 ghost use Rattle.std.specs.Prelude.{◌≡◌, None, IfSome, IfNone};
 ghost use Rattle.std.specs.Result.{result_ok};
 ghost use Rattle.club.specs.Lines.{event as told_by};
-ghost use Rattle.club.specs.Procedures.{Performs};
+ghost use Rattle.procedures.specs.Procedures.{Performs};
 ghost use Rattle.club.specs.Events.{Shows, engine_of, pending_of, pending_after, new_desk, acted, answered, recalculated};
 
 use crate::event::Event;
 use crate::line::parse;
 use crate::said::{Recalculation, Said};
-use crate::transactions::{correct, finish, list, post, redo, show, work_out};
-use callfile::fault::CallFault;
+use crate::transactions::{correct, list, post, redo, show, work_out};
+use answer_lines::LineFault;
 use engine::engine::Engine;
 use ledger::{Fault, Kind, Verdict};
+use procedures::updates::commit_with_write;
 use validation::validator::Validator;
 use versions::store::VersionStore;
 
@@ -33,7 +34,7 @@ impl<S: VersionStore, V: Validator> Desk<S, V> {
     }
 
     /// Does what a line tells of; a malformed one is refused with its number.
-    pub fn answer(&mut self, number: u64, line: &[u8]) -> Result<Said, CallFault>
+    pub fn answer(&mut self, number: u64, line: &[u8]) -> Result<Said, LineFault>
         ensures performs { Performs S.meaning V.meaning (engine_of self.old) (engine_of self.new)
             (answered number (pending_of self.old) (told_by line.now))
             (result, pending_of self.new) }
@@ -43,7 +44,7 @@ impl<S: VersionStore, V: Validator> Desk<S, V> {
         ensures shows { IfSome (told_by line.now) (λ event.
             Shows S.meaning V.meaning (engine_of self.old) event result) }
     {
-        let event = parse(line).ok_or(CallFault::Malformed(number))?;
+        let event = parse(line).ok_or(LineFault::Malformed { number })?;
         Ok(self.act(event)?)
     }
 
@@ -56,9 +57,17 @@ impl<S: VersionStore, V: Validator> Desk<S, V> {
     {
         let engine = &mut self.engine;
         match event {
-            Event::Card(key, value) => Ok(Said::Card(key, value, post(engine, key, value))),
-            Event::Correction(key, value) => correct(engine, key, value),
-            Event::Recalculation(first, count, index) => self.recalculate(first, count, index),
+            Event::Card { key, value } => Ok(Said::Card {
+                key,
+                value,
+                end: post(engine, key, value),
+            }),
+            Event::Correction { key, value } => correct(engine, key, value),
+            Event::Recalculation {
+                first,
+                count,
+                index,
+            } => self.recalculate(first, count, index),
             Event::Finish => self.finish(),
             Event::List => list(engine),
             Event::Report => engine.begin(Kind::Reader).map(Said::Report),
@@ -92,10 +101,10 @@ impl<S: VersionStore, V: Validator> Desk<S, V> {
         let Some(work) = self.pending.take() else {
             return Ok(Said::NoneOpen);
         };
-        match finish(&mut self.engine, work.handle, work.index, work.value)? {
-            Verdict::Restart(key, stamp) => {
+        match commit_with_write(&mut self.engine, work.handle, work.index, work.value)? {
+            Verdict::Restart { key, stamp } => {
                 let again = redo(&mut self.engine, work);
-                Ok(Said::Restarted(key, stamp, again))
+                Ok(Said::Restarted { key, stamp, again })
             }
             verdict => Ok(Said::Ended(verdict)),
         }

@@ -2,11 +2,11 @@
 #[derive(Clone, Copy)]
 pub enum Event {
     /// A card for a round, with its value.
-    Card(u16, u64),
+    Card { key: u16, value: u64 },
     /// A card that was posted before, with its right value.
-    Correction(u16, u64),
+    Correction { key: u16, value: u64 },
     /// The rounds first, first + 1, .. are read for the index of a key.
-    Recalculation(u16, u16, u16),
+    Recalculation { first: u16, count: u16, index: u16 },
     /// The index is written, and the recalculation committed.
     Finish,
     /// The club list as it is now.

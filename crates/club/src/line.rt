@@ -1,5 +1,5 @@
 ghost use Rattle.std.specs.Prelude.{◌≡◌, ℕ};
-ghost use Rattle.club.specs.Lines.{word, behind, number, Converts, card, rounds, verb, plain, event};
+ghost use Rattle.club.specs.Lines.{word, behind, number, short, handle, card, rounds, verb, plain, event};
 
 use crate::event::Event;
 
@@ -34,13 +34,20 @@ fn parse_long(digits: &[u8]) -> Option<u64>
     Some(value)
 }
 
-/// A decimal number that its type holds: of 16 bits for a key or a count, of 32 for a handle.
-fn parse_number<N: TryFrom<u64>>(digits: &[u8]) -> Option<N>
-where
-    N::Error: Drop,
-    ensures { Converts N.TryFrom.try_from_gives (number digits.now 18446744073709551615) result }
+/// A key or a count, of 16 bits.
+#[tactic(auto, using(crate::proofs::Lines::short_below))]
+fn parse_short(digits: &[u8]) -> Option<u16>
+    ensures { result ≡ short digits.now }
 {
-    N::try_from(parse_long(digits)?).ok()
+    u16::try_from(parse_long(digits)?).ok()
+}
+
+/// A handle, of 32 bits.
+#[tactic(auto, using(crate::proofs::Lines::handle_below))]
+fn parse_handle(digits: &[u8]) -> Option<u32>
+    ensures { result ≡ handle digits.now }
+{
+    u32::try_from(parse_long(digits)?).ok()
 }
 
 /// A key and a value.
@@ -48,7 +55,7 @@ fn parse_card(args: &[u8]) -> Option<(u16, u64)>
     ensures { result ≡ card args.now }
 {
     let (key, value) = split_word(args);
-    Some((parse_number(key)?, parse_number(value)?))
+    Some((parse_short(key)?, parse_long(value)?))
 }
 
 /// The first key of a run of rounds, their count, and the key of the index.
@@ -58,9 +65,9 @@ fn parse_rounds(args: &[u8]) -> Option<(u16, u16, u16)>
     let (first, args) = split_word(args);
     let (count, index) = split_word(args);
     Some((
-        parse_number(first)?,
-        parse_number(count)?,
-        parse_number(index)?,
+        parse_short(first)?,
+        parse_short(count)?,
+        parse_short(index)?,
     ))
 }
 
@@ -78,7 +85,7 @@ enum Verb {
     CleanUp,
 }
 
-#[tactic(auto, using(crate::proofs::Texts::no_verb))]
+#[tactic(auto, using(crate::proofs::Lines::no_verb))]
 fn parse_verb(word: &[u8]) -> Option<Verb>
     ensures { result ≡ verb word.now }
 {
@@ -110,14 +117,18 @@ pub fn parse(line: &[u8]) -> Option<Event>
 {
     let (word, args) = split_word(line);
     match parse_verb(word)? {
-        Verb::Card => parse_card(args).map(|(key, value)| Event::Card(key, value)),
-        Verb::Correct => parse_card(args).map(|(key, value)| Event::Correction(key, value)),
+        Verb::Card => parse_card(args).map(|(key, value)| Event::Card { key, value }),
+        Verb::Correct => { parse_card(args).map(|(key, value)| Event::Correction { key, value }) }
         Verb::Recalculate => {
             let (first, count, index) = parse_rounds(args)?;
-            Some(Event::Recalculation(first, count, index))
+            Some(Event::Recalculation {
+                first,
+                count,
+                index,
+            })
         }
-        Verb::Show => parse_number(args).map(Event::Show),
-        Verb::Close => parse_number(args).map(Event::Close),
+        Verb::Show => parse_handle(args).map(Event::Show),
+        Verb::Close => parse_handle(args).map(Event::Close),
         Verb::Finish => parse_plain(Event::Finish, args),
         Verb::List => parse_plain(Event::List, args),
         Verb::Report => parse_plain(Event::Report, args),

@@ -1,9 +1,10 @@
 //! What an event did, as a value that two engines' answers are compared by, and its words.
 ghost use Rattle.std.specs.Prelude.{Some};
-ghost use Rattle.club.specs.Texts.{told_text, verdict_text, recalculation_text, redone_text, said_text};
+ghost use Rattle.club.specs.Texts.{spoken_text, verdict_text, recalculation_text, redone_text, said_text};
 
-use callfile::line::Spaced;
+use answer_lines::Spaced;
 use ledger::{Fault, Verdict};
+use refusals::Refusal;
 use std::fmt;
 
 /// The keys of the club's table, all of which a list shows.
@@ -29,16 +30,28 @@ pub struct Redone {
 /// What an event did.
 #[derive(Clone, Copy, PartialEq, Eq)]
 pub enum Said {
-    /// Key, value and end.
-    Card(u16, u64, Result<Verdict, Fault>),
-    /// Key, value, the value before and end.
-    Correction(u16, u64, u64, Result<Verdict, Fault>),
+    Card {
+        key: u16,
+        value: u64,
+        end: Result<Verdict, Fault>,
+    },
+    /// `was` is the value before.
+    Correction {
+        key: u16,
+        value: u64,
+        was: u64,
+        end: Result<Verdict, Fault>,
+    },
     Recalculation(Recalculation),
     AlreadyOpen,
     NoneOpen,
     Ended(Verdict),
     /// Key and stamp of the clash, and how the second try went.
-    Restarted(u16, u32, Result<Redone, Fault>),
+    Restarted {
+        key: u16,
+        stamp: u32,
+        again: Result<Redone, Fault>,
+    },
     Values([u64; KEYS as usize]),
     Report(u32),
     Removed(u16),
@@ -46,15 +59,15 @@ pub enum Said {
 
 /// An answer, or why it was refused, as it is printed.
 #[derive(Drop, PartialEq, Eq)]
-pub struct Told<T, E>(pub Result<T, E>);
+pub struct Spoken<T, E>(pub Result<T, E>);
 
-impl<T: fmt::Display, E: fmt::Display> fmt::Display for Told<T, E> {
-    ghost output = { λ t. told_text T.output E.output t.0 };
+impl<T: fmt::Display, E: Refusal> fmt::Display for Spoken<T, E> {
+    ghost output = { λ s. spoken_text T.output E.reported s.0 };
 
     fn fmt<W: fmt::Write>(&self, f: &mut fmt::Formatter<W>) -> fmt::Result {
         match &self.0 {
             Ok(answer) => write!(f, "{answer}"),
-            Err(fault) => write!(f, "refused {fault}"),
+            Err(fault) => write!(f, "refused {}", fault.report()),
         }
     }
 }
@@ -69,12 +82,12 @@ impl fmt::Display for Ended {
     fn fmt<W: fmt::Write>(&self, f: &mut fmt::Formatter<W>) -> fmt::Result {
         match self.0 {
             Verdict::Closed => write!(f, "closed"),
-            Verdict::Restart(key, stamp) => {
+            Verdict::Restart { key, stamp } => {
                 write!(f, "restarted by the commit at tick {stamp} on key {key}")
             }
             Verdict::Spent => write!(f, "spent: no tick is left"),
-            Verdict::Full(writes, free) => write!(f, "full: {writes} to write, {free} free"),
-            Verdict::Committed(tick) => write!(f, "committed at tick {tick}"),
+            Verdict::Full { writes, free } => write!(f, "full: {writes} to write, {free} free"),
+            Verdict::Committed { tick } => write!(f, "committed at tick {tick}"),
         }
     }
 }
@@ -102,7 +115,7 @@ impl fmt::Display for Redone {
 
     fn fmt<W: fmt::Write>(&self, f: &mut fmt::Formatter<W>) -> fmt::Result {
         let Redone { work, end } = *self;
-        write!(f, "{work}, {}", Told(end.map(Ended)))
+        write!(f, "{work}, {}", Spoken(end.map(Ended)))
     }
 }
 
@@ -111,20 +124,26 @@ impl fmt::Display for Said {
 
     fn fmt<W: fmt::Write>(&self, f: &mut fmt::Formatter<W>) -> fmt::Result {
         match self {
-            Said::Card(key, value, end) => {
-                write!(f, "card {value} for key {key}: {}", Told(end.map(Ended)))
+            Said::Card { key, value, end } => {
+                write!(f, "card {value} for key {key}: {}", Spoken(end.map(Ended)))
             }
-            Said::Correction(key, value, was, end) => {
-                let end = Told(end.map(Ended));
+            Said::Correction {
+                key,
+                value,
+                was,
+                end,
+            } => {
+                let end = Spoken(end.map(Ended));
                 write!(f, "card {value} for key {key} in place of {was}: {end}")
             }
             Said::Recalculation(work) => write!(f, "{work}"),
             Said::AlreadyOpen => write!(f, "a recalculation is open already"),
             Said::NoneOpen => write!(f, "no recalculation is open"),
             Said::Ended(verdict) => write!(f, "{}", Ended(*verdict)),
-            Said::Restarted(key, stamp, again) => {
-                let restart = Ended(Verdict::Restart(*key, *stamp));
-                write!(f, "{restart}; again: {}", Told(*again))
+            Said::Restarted { key, stamp, again } => {
+                let (key, stamp) = (*key, *stamp);
+                let restart = Ended(Verdict::Restart { key, stamp });
+                write!(f, "{restart}; again: {}", Spoken(*again))
             }
             Said::Values(values) => write!(f, "values{}", Spaced { values }),
             Said::Report(handle) => write!(f, "report {handle} opened"),

@@ -1,52 +1,17 @@
 //! The transactions that a club's events are made of, on any engine.
 ghost use Rattle.std.specs.Prelude.{IfOk};
 ghost use Rattle.club.specs.Moments.{ShowsNow, ShowsOpening};
-ghost use Rattle.club.specs.Procedures.{Performs};
-ghost use Rattle.club.specs.Transactions.{opened, finished, posted, corrected, worked_out, redone, listed, shown};
+ghost use Rattle.procedures.specs.Procedures.{Performs};
+ghost use Rattle.club.specs.Transactions.{posted, corrected, worked_out, redone, listed, report_shown};
 
 use crate::index::index_of;
 use crate::said::{KEYS, Recalculation, Redone, Said};
 use engine::engine::Engine;
 use engine::slip::Reading;
 use ledger::{Fault, Kind, Verdict};
+use procedures::updates::{begin_with_read, commit_with_write};
 use validation::validator::Validator;
 use versions::store::VersionStore;
-
-/// Begins an updater that reads a run of rounds, and gives its handle.
-pub fn open<S: VersionStore, V: Validator>(
-    engine: &mut Engine<S, V>,
-    first: u16,
-    count: u16,
-    rounds: &mut [u64],
-) -> Result<u32, Fault>
-    ensures { Performs S.meaning V.meaning engine.old engine.new
-        (opened first count rounds.old) (result, rounds.new) }
-{
-    let handle = engine.begin(Kind::Updater)?;
-    // No `inspect_err`, here and in `finish`: of a call that a closure makes a proof does not know the step.
-    if let Err(fault) = engine.read(handle, first, count, rounds) {
-        let _ = engine.abort(handle);
-        return Err(fault);
-    }
-    Ok(handle)
-}
-
-/// Writes a value under an open updater, and commits it.
-pub fn finish<S: VersionStore, V: Validator>(
-    engine: &mut Engine<S, V>,
-    handle: u32,
-    key: u16,
-    value: u64,
-) -> Result<Verdict, Fault>
-    ensures { Performs S.meaning V.meaning engine.old engine.new
-        (finished handle key value) result }
-{
-    if let Err(fault) = engine.write(handle, key, value) {
-        let _ = engine.abort(handle);
-        return Err(fault);
-    }
-    engine.commit(handle)
-}
 
 /// Posts a card: an updater that writes one key.
 pub fn post<S: VersionStore, V: Validator>(
@@ -58,7 +23,7 @@ pub fn post<S: VersionStore, V: Validator>(
         (posted key value) result }
 {
     let handle = engine.begin(Kind::Updater)?;
-    finish(engine, handle, key, value)
+    commit_with_write(engine, handle, key, value)
 }
 
 /// Posts the right value of a card: an updater that reads the key and writes it.
@@ -71,9 +36,14 @@ pub fn correct<S: VersionStore, V: Validator>(
         (corrected key value) result }
 {
     let mut old = [0];
-    let handle = open(engine, key, 1, &mut old)?;
-    let end = finish(engine, handle, key, value);
-    Ok(Said::Correction(key, value, old[0], end))
+    let handle = begin_with_read(engine, key, 1, &mut old)?;
+    let end = commit_with_write(engine, handle, key, value);
+    Ok(Said::Correction {
+        key,
+        value,
+        was: old[0],
+        end,
+    })
 }
 
 /// Reads the rounds of a recalculation, and works out the index to write.
@@ -87,7 +57,7 @@ pub fn work_out<S: VersionStore, V: Validator>(
         (worked_out first count index) result }
 {
     let mut rounds = [0; KEYS as usize];
-    let handle = open(engine, first, count, &mut rounds)?;
+    let handle = begin_with_read(engine, first, count, &mut rounds)?;
     let used = usize::from(count).min(rounds.len());
     let value = index_of(&rounds[..used]);
     Ok(Recalculation {
@@ -108,7 +78,7 @@ pub fn redo<S: VersionStore, V: Validator>(
         (redone work) result }
 {
     let work = work_out(engine, work.first, work.count, work.index)?;
-    let end = finish(engine, work.handle, work.index, work.value);
+    let end = commit_with_write(engine, work.handle, work.index, work.value);
     Ok(Redone { work, end })
 }
 
@@ -130,7 +100,7 @@ pub fn show<S: VersionStore, V: Validator>(
     engine: &mut Engine<S, V>,
     report: u32,
 ) -> Result<Said, Fault>
-    ensures performs { Performs S.meaning V.meaning engine.old engine.new (shown report) result }
+    ensures performs { Performs S.meaning V.meaning engine.old engine.new (report_shown report) result }
     ensures opening { IfOk result (ShowsOpening S.meaning V.meaning engine.old report) }
 {
     let mut values = [0; KEYS as usize];

@@ -1,11 +1,12 @@
 -- What the program writes.
 use Rattle.std.specs.Prelude.{ℕ, List}
 use Rattle.ledger.specs.Ledger.{Limits, new_ledger}
+use Rattle.club.specs.declared.said.TheConstants.{KEYS}
 use Rattle.club.specs.Afternoons.{afternoon_text}
 
--- 8 keys, each its own granule, 9 cells, and 51 ticks
+-- the club's keys, each its own granule, 9 cells, and 51 ticks
 abbrev pub day_limits : Limits
-day_limits = record { keys = 8; cells = 9; last = 51; granule = λ k. k }
+day_limits = record { keys = KEYS; cells = 9; last = 51; granule = λ k. k }
 
 -- what is written for the lines of a day, from nothing
 abbrev pub day_text : List (List ℕ) → List ℕ

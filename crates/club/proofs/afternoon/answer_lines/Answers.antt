@@ -3,7 +3,8 @@ use Rattle.std.specs.Io.Buffered.{reader_remaining, writer_contents}
 use Rattle.std.specs.Str.Lines.{lines}
 use Rattle.std.specs.Io.BufRead.{take_through, drop_through}
 use Rattle.club.specs.Lines.{text_of}
-use Rattle.club.proofs.Afternoons.{told_none, told_kept, told_line, told_all, none_left, if_some, some_taken, lines-few}
+use Rattle.club.proofs.Afternoons.{told_none, told_kept, told_line, told_all, none_left, if_some, some_taken}
+use Rattle.club.proofs.TextLines.{lines-few}
 use Rattle.club.proofs.afternoon.answer_lines.Goals as goal
 
 pub loop-number-init : goal.loop-number-init

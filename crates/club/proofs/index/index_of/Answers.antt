@@ -1,7 +1,7 @@
 use Rattle.std.proofs.Common.{◌≡◌, sum, rules, tests, arith}
 use native.Mathlib.Nat.{div-le_of_le-mul}
 use Rattle.club.specs.Indexes.{played}
-use Rattle.club.proofs.Means.{sum_bound}
+use Rattle.club.proofs.Indexes.{sum_bound}
 use Rattle.club.proofs.index.index_of.Goals as goal
 
 pub overflow_cast-result-2 : goal.overflow_cast-result-2

@@ -2,7 +2,7 @@ use Rattle.std.proofs.Common.{eqb, rules, tests}
 use Rattle.std.proofs.lemmas.Iterator.{YieldsList-from_slice}
 use Rattle.std.proofs.lemmas.Iterator.Search.{position_from_yields_List}
 use Rattle.std.proofs.lemmas.List.{take_rest}
-use Rattle.club.proofs.Texts.{split_at, not_split}
+use Rattle.club.proofs.Lines.{split_at, not_split}
 use Rattle.club.proofs.line.split_word.Goals as goal
 
 pub returns-in-Some : goal.returns-in-Some

@@ -1,5 +1,5 @@
 use Rattle.std.proofs.lemmas.Result.{err_from_is_err_and}
-use Rattle.club.proofs.Performances.{performs_on, performs_pure}
+use Rattle.procedures.proofs.Performances.{performs_on, performs_pure}
 use Rattle.club.proofs.transactions.correct.Goals as goal
 
 pub returns-in_err-handle : goal.returns-in_err-handle
@@ -8,4 +8,4 @@ returns-in_err-handle g c =
     rw (q.1, q.2) (performs_on _ c.in_err-handle.ensures (performs_pure _))
 
 pub returns : goal.returns
-returns g c = performs_on _ c.in_ok-handle.ensures (performs_on _ c.finish-end.ensures (performs_pure _))
+returns g c = performs_on _ c.in_ok-handle.ensures (performs_on _ c.commit_with_write-end.ensures (performs_pure _))

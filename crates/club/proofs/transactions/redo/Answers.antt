@@ -1,5 +1,5 @@
 use Rattle.std.proofs.lemmas.Result.{err_from_is_err_and}
-use Rattle.club.proofs.Performances.{performs_on, performs_pure}
+use Rattle.procedures.proofs.Performances.{performs_on, performs_pure}
 use Rattle.club.proofs.transactions.redo.Goals as goal
 
 pub returns-in_err-work : goal.returns-in_err-work
@@ -8,4 +8,4 @@ returns-in_err-work g c =
     rw (q.1, q.2) (performs_on _ c.in_err-work.ensures (performs_pure _))
 
 pub returns : goal.returns
-returns g c = performs_on _ c.in_ok-work.ensures (performs_on _ c.finish-end.ensures (performs_pure _))
+returns g c = performs_on _ c.in_ok-work.ensures (performs_on _ c.commit_with_write-end.ensures (performs_pure _))

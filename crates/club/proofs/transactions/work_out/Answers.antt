@@ -2,7 +2,7 @@ use Rattle.std.proofs.Common.{rules, ◌≡◌, length, min, take, refl}
 use Rattle.std.proofs.lemmas.Result.{err_from_is_err_and}
 use Rattle.std.proofs.lemmas.List.{take_min}
 use Rattle.club.specs.Indexes.{index}
-use Rattle.club.proofs.Performances.{performs_on, performs_pure}
+use Rattle.procedures.proofs.Performances.{performs_on, performs_pure}
 use Rattle.club.proofs.transactions.work_out.Goals as goal
 
 pub returns-in_err-handle : goal.returns-in_err-handle
@@ -12,7 +12,7 @@ returns-in_err-handle g c =
 
 pub returns : goal.returns
 returns g c =
-    let len : length c.open.new.rounds ≡ 8 = search rules in
-    let used : c.min-used.result ≡ min c.args.count (length c.open.new.rounds) = rw (len, c.min-used.ensures, c.from.ensures) refl in
-    let value : c.index_of-value.result ≡ index (take c.args.count c.open.new.rounds) = rw (c.index_of-value.ensures, used, take_min) refl in
+    let len : length c.begin_with_read.new.buffer ≡ 8 = search rules in
+    let used : c.min-used.result ≡ min c.args.count (length c.begin_with_read.new.buffer) = rw (len, c.min-used.ensures, c.from.ensures) refl in
+    let value : c.index_of-value.result ≡ index (take c.args.count c.begin_with_read.new.buffer) = rw (c.index_of-value.ensures, used, take_min) refl in
     rw value (performs_on _ c.in_ok-handle.ensures (performs_pure _))

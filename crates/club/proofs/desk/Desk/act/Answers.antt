@@ -1,7 +1,7 @@
 use Rattle.std.proofs.Common.{rules, ◌≡◌}
 use Rattle.club.specs.declared.said.Said.TheVariants.{Ended as SaidEnded, Report as SaidReport}
-use Rattle.club.specs.Transactions.{said}
-use Rattle.club.proofs.Performances.{performs_on, performs_pure, performs_begin, performs_commit, performs_reclaim}
+use Rattle.std.specs.Result.{result_map_both}
+use Rattle.procedures.proofs.Performances.{performs_on, performs_pure, performs_begin, performs_commit, performs_reclaim}
 use Rattle.club.proofs.desk.Desk.act.Goals as goal
 
 pub returns-in-Card-clause-performs : goal.returns-in-Card-clause-performs
@@ -17,14 +17,14 @@ pub returns-in-Show-clause-performs : goal.returns-in-Show-clause-performs
 returns-in-Show-clause-performs g c = rw c.in-Show.is (performs_on _ c.show.ensures.performs (performs_pure _))
 
 pub returns-in-CleanUp-clause-performs : goal.returns-in-CleanUp-clause-performs
-returns-in-CleanUp-clause-performs g c = rw c.in-CleanUp.is (performs_on _ (performs_reclaim c.reclaim.result c.reclaim.ensures.serves c.reclaim.ensures.idle) (performs_pure _))
+returns-in-CleanUp-clause-performs g c = rw c.in-CleanUp.is (performs_on _ (performs_reclaim c.reclaim.result c.reclaim.ensures.refines c.reclaim.ensures.idle) (performs_pure _))
 
 pub returns-in-Report-clause-performs : goal.returns-in-Report-clause-performs
 returns-in-Report-clause-performs g c =
-    let r : c.map.result ≡ said SaidReport c.begin.result = search rules in
-    rw (c.in-Report.is, r) (performs_on _ (performs_begin c.begin.result c.begin.ensures.serves c.begin.ensures.idle) (performs_pure _))
+    let r : c.map.result ≡ result_map_both SaidReport (λ e. e) c.begin.result = search rules in
+    rw (c.in-Report.is, r) (performs_on _ (performs_begin c.begin.result c.begin.ensures.refines c.begin.ensures.idle) (performs_pure _))
 
 pub returns-in-Close-clause-performs : goal.returns-in-Close-clause-performs
 returns-in-Close-clause-performs g c =
-    let r : c.map-in-Close.result ≡ said SaidEnded c.commit.result = search rules in
-    rw (c.in-Close.is, r) (performs_on _ (performs_commit c.commit.result c.commit.ensures.serves c.commit.ensures.idle) (performs_pure _))
+    let r : c.map-in-Close.result ≡ result_map_both SaidEnded (λ e. e) c.commit.result = search rules in
+    rw (c.in-Close.is, r) (performs_on _ (performs_commit c.commit.result c.commit.ensures.refines c.commit.ensures.idle) (performs_pure _))

@@ -1,7 +1,7 @@
 use Rattle.std.proofs.Common.{rules, ◌≡◌, None, Some, Err}
-use Rattle.callfile.specs.declared.fault.CallFault.TheVariants.{Malformed, Engine}
+use Rattle.answer_lines.specs.declared.LineFault.TheVariants.{Malformed, Engine}
 use Rattle.club.specs.Lines.{event as told_by}
-use Rattle.club.proofs.Performances.{performs_on, performs_pure}
+use Rattle.procedures.proofs.Performances.{performs_on, performs_pure}
 use Rattle.club.proofs.desk.Desk.answer.Goals as goal
 
 pub returns-in_err-event-clause-performs : goal.returns-in_err-event-clause-performs

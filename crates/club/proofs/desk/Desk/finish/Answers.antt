@@ -1,6 +1,6 @@
 use Rattle.std.proofs.Common.{rules, ◌≡◌, None, Some}
 use Rattle.std.proofs.lemmas.Result.{err_from_is_err_and}
-use Rattle.club.proofs.Performances.{performs_on, performs_pure}
+use Rattle.procedures.proofs.Performances.{performs_on, performs_pure}
 use Rattle.club.proofs.Recalculations.{not_restarted}
 use Rattle.club.proofs.desk.Desk.finish.Goals as goal
 

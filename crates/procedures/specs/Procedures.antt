@@ -1,30 +1,31 @@
 -- Procedures: what is done on a ledger by calls, one after another, and when an engine carried one out.
 use Rattle.std.specs.Prelude.{◌≡◌, ℕ, List, [], ◌∷◌, ◌++◌, Ok, Err, Result}
+use Rattle.std.specs.Result.{result_map_both, result_unwrap_or}
 use Rattle.ledger.specs.declared.Kind.{Kind}
 use Rattle.ledger.specs.declared.Call.{Call}
 use Rattle.ledger.specs.declared.Call.TheVariants.{Begin, Read, Write, Commit, Abort, Reclaim}
 use Rattle.ledger.specs.declared.Fault.{Fault}
 use Rattle.ledger.specs.declared.Verdict.{Verdict}
 use Rattle.ledger.specs.declared.Verdict.TheVariants.{Closed}
-use Rattle.ledger.specs.declared.Answer.{Answer}
-use Rattle.ledger.specs.declared.Answer.TheVariants.{Began, Ended, Reclaimed, Refused}
+use Rattle.ledger.specs.declared.Done.{Done}
+use Rattle.ledger.specs.declared.Done.TheVariants.{Began, Ended, Reclaimed}
 use Rattle.ledger.specs.Ledger.{Limits, Ledger}
 use Rattle.ledger.specs.Calls.{step}
 use Rattle.ledger.specs.History.{Made, after}
-use Rattle.versions.specs.Meaning.{Meaning as Store}
-use Rattle.validation.specs.Meaning.{Meaning as Stamps}
+use Rattle.versions.specs.Meaning.{Store}
+use Rattle.validation.specs.Meaning.{Stamps}
 use Rattle.engine.specs.declared.engine.Engine.{Engine}
 use Rattle.engine.specs.Parts.{FitsEngine}
-use Rattle.engine.specs.Serves.{Led, Lawfully, Idle, made}
+use Rattle.engine.specs.Steps.{Led, Lawfully, Idle, call_made}
 
 -- what is answered, and the calls made for it, the newest first: the ledger afterwards is the one that they lead to
-pub record Effect (X : Type 0) : Type 0 where
+pub record Run (X : Type 0) : Type 0 where
   pub answer : X
   pub calls : List Made
 
--- a procedure tells its effect on each ledger
+-- a procedure tells its run on each ledger
 abbrev pub Procedure : Type 0 → Type 0
-Procedure X = Ledger → Effect X
+Procedure X = Ledger → Run X
 
 -- the ledger after more calls, the newest first
 abbrev pub after_more : Ledger → List Made → Ledger
@@ -45,54 +46,68 @@ unfoldable pub ◌>>=◌ : {X Y : Type 0} → Procedure X → (X → Procedure Y
 
 -- One call
 
--- a call that is lent a buffer: its answer, and what is left in the buffer
-unfoldable pub lent_call : Call → List ℕ → Procedure (Answer × List ℕ)
-lent_call c b l =
+-- a call that is lent a buffer: what f tells of what it did or why it is refused, and what is left there
+unfoldable pub lent_call : {X : Type 0} → Call → List ℕ → (Done → X)
+    → Procedure (Result X Fault × List ℕ)
+lent_call c b f l =
     let o = step l c b in
-    record { answer = (o.answer, o.buffer); calls = made c b o.answer o.buffer ∷ [] }
+    record {
+      answer = (result_map_both f (λ e. e) o.answer, o.buffer);
+      calls = call_made c b o.answer o.buffer ∷ [];
+    }
 
--- what an answer that is no refusal gives
-abbrev pub result_of : {X : Type 0} → (Answer → X) → Answer → Result X Fault
-result_of f (Refused e) = Err e
-result_of f a = Ok (f a)
+-- a call that is lent none
+abbrev pub unlent_call : {X : Type 0} → Call → (Done → X) → Procedure (Result X Fault)
+unlent_call c f = do
+  o ← lent_call c [] f
+  pure o.0
 
-abbrev pub tick_of : Answer → ℕ
-tick_of (Began t) = t
-tick_of a = 0
+abbrev pub handle_in : Done → ℕ
+handle_in (Began h) = h
+handle_in _ = 0
 
-abbrev pub verdict_of : Answer → Verdict
-verdict_of (Ended v) = v
-verdict_of a = Closed
+abbrev pub verdict_in : Done → Verdict
+verdict_in (Ended v) = v
+verdict_in _ = Closed
 
-abbrev pub count_of : Answer → ℕ
-count_of (Reclaimed n) = n
-count_of a = 0
-
--- a call that is lent no buffer, and what its answer gives
-abbrev pub bare_call : {X : Type 0} → Call → (Answer → X) → Procedure X
-bare_call c f = do
-  o ← lent_call c []
-  pure (f o.0)
+abbrev pub count_in : Done → ℕ
+count_in (Reclaimed n) = n
+count_in _ = 0
 
 abbrev pub begin : Kind → Procedure (Result ℕ Fault)
-begin kind = bare_call (Begin kind) (result_of tick_of)
+begin kind = unlent_call (Begin kind) handle_in
 
 abbrev pub read : ℕ → ℕ → ℕ → List ℕ → Procedure (Result (Unit {0}) Fault × List ℕ)
-read h k n b = do
-  o ← lent_call (Read h k n) b
-  pure (result_of (λ a. tt) o.0, o.1)
+read h k n b = lent_call (Read h k n) b (λ _. tt)
 
 abbrev pub write : ℕ → ℕ → ℕ → Procedure (Result (Unit {0}) Fault)
-write h k x = bare_call (Write h k x) (result_of (λ a. tt))
+write h k x = unlent_call (Write h k x) (λ _. tt)
 
 abbrev pub commit : ℕ → Procedure (Result Verdict Fault)
-commit h = bare_call (Commit h) (result_of verdict_of)
+commit h = unlent_call (Commit h) verdict_in
 
 abbrev pub abort : ℕ → Procedure (Result (Unit {0}) Fault)
-abort h = bare_call (Abort h) (result_of (λ a. tt))
+abort h = unlent_call (Abort h) (λ _. tt)
 
+-- a reclaim is never refused
 abbrev pub reclaim : Procedure ℕ
-reclaim = bare_call Reclaim count_of
+reclaim = do
+  removed ← unlent_call Reclaim count_in
+  pure (result_unwrap_or removed 0)
+
+-- More than one call
+
+-- a refusal is the answer, and a value is gone on with
+abbrev pub and_then : {X Y : Type 0} → Result X Fault → (X → Procedure (Result Y Fault)) → Procedure (Result Y Fault)
+and_then (Ok x) f = f x
+and_then (Err e) f = pure (Err e)
+
+-- where a call under h is refused, h is aborted, and the refusal is the answer
+abbrev pub or_abort : {X : Type 0} → ℕ → Result (Unit {0}) Fault → Procedure (Result X Fault) → Procedure (Result X Fault)
+or_abort h (Ok u) f = f
+or_abort h (Err e) f = do
+  _ ← abort h
+  pure (Err e)
 
 -- Procedures on an engine; m and p are the meanings of the store and of the validator.
 
