@@ -7,6 +7,9 @@ use ledger::Fault;
 use refusals::{Refusal, Report};
 use std::fmt;
 
+/// The inputs are the fourth layer.
+pub const LAYER: u8 = 4;
+
 /// Why a line or a record of an input is refused.
 #[derive(Clone, Copy, Debug, PartialEq, Eq)]
 pub enum LineFault {
@@ -34,7 +37,7 @@ impl Refusal for LineFault {
     fn report(&self) -> Report {
         match *self {
             LineFault::Malformed { number } => Report {
-                layer: 4,
+                layer: LAYER,
                 number: 7,
                 place: number,
             },

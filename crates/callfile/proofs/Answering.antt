@@ -2,13 +2,13 @@
 use Rattle.std.proofs.Common.{◌≡◌, ℕ, ◌+◌, List, [], ◌∷◌, ◌++◌, length, Some, None, Option, codes, refl, sym, ap, ◌∙◌, subst, append_assoc, arith}
 use Rattle.ledger.specs.declared.Call.{Call}
 use Rattle.ledger.specs.Ledger.{Ledger, Limits}
-use Rattle.ledger.specs.History.{Made, after, Told}
+use Rattle.ledger.specs.History.{Made, after, IsTold}
 use Rattle.records.specs.Format.{decoded}
-use Rattle.versions.specs.Meaning.{Store}
-use Rattle.validation.specs.Meaning.{Stamps}
+use Rattle.versions.specs.Stores.{Store}
+use Rattle.validation.specs.Stamps.{Stamps}
 use Rattle.engine.specs.declared.engine.Engine.{Engine}
 use Rattle.engine.specs.Parts.{FitsEngine}
-use Rattle.engine.specs.Steps.{Idle}
+use Rattle.engine.specs.Steps.{StaysIdle}
 use Rattle.engine.proofs.Histories.{lawful_in}
 use Rattle.callfile.specs.Lines.{line_text}
 use Rattle.callfile.specs.Files.{record_answer, answer_from}
@@ -17,35 +17,35 @@ use Rattle.callfile.specs.Runs.{Answers}
 -- On a ledger
 
 -- the calls of one record are told, and lead to its ledger
-told_one : (k : Limits) (ms : List Made) (n : ℕ) (b : List ℕ) (o : Option Call) → Told k ms
-    → Told k ((record_answer n (after k ms) b o).calls ++ ms) × (after k ((record_answer n (after k ms) b o).calls ++ ms) ≡ (record_answer n (after k ms) b o).ledger)
+told_one : (k : Limits) (ms : List Made) (n : ℕ) (b : List ℕ) (o : Option Call) → IsTold k ms
+    → IsTold k ((record_answer n (after k ms) b o).calls ++ ms) × (after k ((record_answer n (after k ms) b o).calls ++ ms) ≡ (record_answer n (after k ms) b o).ledger)
 told_one k ms n b None told = (told, refl)
 told_one k ms n b (Some c) told = ((refl, refl, told), refl)
 
 -- so are those of any records
-told_all : (k : Limits) (ms : List Made) (n : ℕ) (b : List ℕ) (rs : List (List ℕ)) → Told k ms
-    → Told k ((answer_from n (after k ms) b rs).calls ++ ms) × (after k ((answer_from n (after k ms) b rs).calls ++ ms) ≡ (answer_from n (after k ms) b rs).ledger)
+told_all : (k : Limits) (ms : List Made) (n : ℕ) (b : List ℕ) (rs : List (List ℕ)) → IsTold k ms
+    → IsTold k ((answer_from n (after k ms) b rs).calls ++ ms) × (after k ((answer_from n (after k ms) b rs).calls ++ ms) ≡ (answer_from n (after k ms) b rs).ledger)
 told_all k ms n b [] told = (told, refl)
 told_all k ms n b (r ∷ rs) told =
     let a = record_answer n (after k ms) b (decoded r) in
     let one = told_one k ms n b (decoded r) told in
-    let P : Ledger → Type 0 = λ l. Told k ((answer_from (n + 1) l a.buffer rs).calls ++ (a.calls ++ ms)) × (after k ((answer_from (n + 1) l a.buffer rs).calls ++ (a.calls ++ ms)) ≡ (answer_from (n + 1) l a.buffer rs).ledger) in
+    let P : Ledger → Type 0 = λ l. IsTold k ((answer_from (n + 1) l a.buffer rs).calls ++ (a.calls ++ ms)) × (after k ((answer_from (n + 1) l a.buffer rs).calls ++ (a.calls ++ ms)) ≡ (answer_from (n + 1) l a.buffer rs).ledger) in
     let rest = answer_from (n + 1) a.ledger a.buffer rs in
-    let Q : List Made → Type 0 = λ hs. Told k hs × (after k hs ≡ rest.ledger) in
+    let Q : List Made → Type 0 = λ hs. IsTold k hs × (after k hs ≡ rest.ledger) in
     subst Q (sym (append_assoc rest.calls a.calls ms)) (subst P one.1 (told_all k (a.calls ++ ms) (n + 1) a.buffer rs one.0))
 
 -- some records, and then more
-pub joined : (rs qs : List (List ℕ)) (n k : ℕ) → k ≡ n + length rs → (l : Ledger) (b : List ℕ)
+pub answers_of_both : (rs qs : List (List ℕ)) (n k : ℕ) → k ≡ n + length rs → (l : Ledger) (b : List ℕ)
     → let a = answer_from n l b rs in
     let d = answer_from k a.ledger a.buffer qs in
     let all = answer_from n l b (rs ++ qs) in
     (all.buffer ≡ d.buffer) × (all.ledger ≡ d.ledger) × (all.lines ≡ a.lines ++ d.lines)
-joined [] qs n k h l b =
+answers_of_both [] qs n k h l b =
     let e : n ≡ k = omega (arith, h) in
     (ap (λ i. (answer_from i l b qs).buffer) e, ap (λ i. (answer_from i l b qs).ledger) e, ap (λ i. (answer_from i l b qs).lines) e)
-joined (r ∷ rs) qs n k h l b =
+answers_of_both (r ∷ rs) qs n k h l b =
     let a = record_answer n l b (decoded r) in
-    let more = joined rs qs (n + 1) k (omega (arith, h)) a.ledger a.buffer in
+    let more = answers_of_both rs qs (n + 1) k (omega (arith, h)) a.ledger a.buffer in
     let text = line_text n a.result a.buffer in
     (more.0, more.1, ap (λ (ls : List ℕ). text ++ (codes "\n" ++ ls)) more.2 ∙ sym (append_assoc text _ _))
 
@@ -55,7 +55,7 @@ module _ {S V : Type 0} {m : S → Store} {p : V → Stamps} where
   answers_by : (e e' : Engine S V) (n : ℕ) (rs : List (List ℕ)) (b b' : List ℕ)
       → ((l : Ledger) → FitsEngine m p l e → b' ≡ (answer_from n l b rs).buffer)
       → ((l : Ledger) → FitsEngine m p l e → FitsEngine m p (answer_from n l b rs).ledger e')
-      → Idle e e'
+      → StaysIdle e e'
       → Answers m p e e' n rs b b'
   answers_by e e' n rs b b' buffer ledger idle = record {
     buffer = buffer;
@@ -82,8 +82,8 @@ module _ {S V : Type 0} {m : S → Store} {p : V → Stamps} where
   pub answers_join : (e e' e'' : Engine S V) (n k : ℕ) (rs qs : List (List ℕ)) (b b' b'' : List ℕ) → k ≡ n + length rs
       → Answers m p e e' n rs b b' → Answers m p e' e'' k qs b' b'' → Answers m p e e'' n (rs ++ qs) b b''
   answers_join e e' e'' n k rs qs b b' b'' h one two = answers_by e e'' n (rs ++ qs) b b''
-      (λ l f. two.buffer (mid l) (one.ledger l f) ∙ ap (λ x. (answer_from k (mid l) x qs).buffer) (one.buffer l f) ∙ sym (joined rs qs n k h l b).0)
-      (λ l f. subst (λ x. FitsEngine m p x e'') (ap (λ x. (answer_from k (mid l) x qs).ledger) (one.buffer l f) ∙ sym (joined rs qs n k h l b).1) (two.ledger (mid l) (one.ledger l f)))
+      (λ l f. two.buffer (mid l) (one.ledger l f) ∙ ap (λ x. (answer_from k (mid l) x qs).buffer) (one.buffer l f) ∙ sym (answers_of_both rs qs n k h l b).0)
+      (λ l f. subst (λ x. FitsEngine m p x e'') (ap (λ x. (answer_from k (mid l) x qs).ledger) (one.buffer l f) ∙ sym (answers_of_both rs qs n k h l b).1) (two.ledger (mid l) (one.ledger l f)))
       (λ z.
       let first = one.idle z in
       let then = two.idle first.2 in

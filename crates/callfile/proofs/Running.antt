@@ -9,15 +9,15 @@ use Rattle.std.proofs.lemmas.Result.{MatchResult-weaker}
 use Rattle.std.proofs.Math.Seq.{take-append-add, take-append_seam, take-length}
 use Rattle.std.proofs.lemmas.List.Folds.{concat-append}
 use Rattle.ledger.specs.Ledger.{Ledger}
-use Rattle.versions.specs.Meaning.{Store}
-use Rattle.validation.specs.Meaning.{Stamps}
+use Rattle.versions.specs.Stores.{Store}
+use Rattle.validation.specs.Stamps.{Stamps}
 use Rattle.engine.specs.declared.engine.Engine.{Engine}
 use Rattle.engine.specs.Parts.{FitsEngine}
 use Rattle.callfile.specs.Files.{records_of, answer_from, record_answer}
-use Rattle.callfile.specs.Runs.{Answers, AnswersFile, AppendsLines, AppendsSome, AppendsSomeLines, AreFirst, ConsumesSome, Stops, Results}
-use Rattle.callfile.specs.Steps.{Advances, Breaks, GoesThrough, GrowsByLines, HandsOver}
+use Rattle.callfile.specs.Runs.{Answers, AnswersFile, AppendsLines, AppendsSome, AppendsSomeLines, AreFirst, ConsumesSome, Breaks, Stops, HasResult}
+use Rattle.callfile.specs.Steps.{Advances, GoesThrough, GrowsByLines, HandsOver}
 use Rattle.callfile.proofs.Pieces.{IsFull, records_of-full, records_of-part, records_of-whole}
-use Rattle.callfile.proofs.Answering.{joined, answers_no_record, answers_join}
+use Rattle.callfile.proofs.Answering.{answers_of_both, answers_no_record, answers_join}
 use Rattle.records.specs.Format.{decoded}
 use Rattle.answer_lines.specs.declared.LineFault.{LineFault}
 use Rattle.ledger.specs.declared.Done.{Done}
@@ -52,7 +52,7 @@ first_behind rs qs (Some xs) (Some ys) full c h =
     ap (λ l. take (length (rs ++ qs)) l) (ap records_of c ∙ records_of-behind rs ys full) ∙ take-behind rs (records_of ys) qs h
 
 -- one record was taken, and is whole, or else nothing is left
-pub first_taken : (bytes : List ℕ) (a b : Option (List ℕ)) → 0 < length bytes → length bytes ≤ 20 → (length bytes < 20 → IsAtEnd b) → Consumes a b bytes
+first_taken : (bytes : List ℕ) (a b : Option (List ℕ)) → 0 < length bytes → length bytes ≤ 20 → (length bytes < 20 → IsAtEnd b) → Consumes a b bytes
     → AreFirst (bytes ∷ []) a
 first_taken bytes None b some most end c = tt
 first_taken bytes (Some xs) None some most end c = absurd c
@@ -66,7 +66,7 @@ end_first : (r : List ℕ) (a b : Option (List ℕ)) → Consumes a b r → IsAt
 end_first r a b c e = Consumes-whole a b r (λ xs. take (length (records_of r)) (records_of xs) ≡ records_of r) c e (take-length (records_of r))
 
 -- nothing of it was answered
-pub first_none : (a : Option (List ℕ)) → AreFirst [] a
+first_none : (a : Option (List ℕ)) → AreFirst [] a
 first_none None = tt
 first_none (Some xs) = refl
 
@@ -79,7 +79,7 @@ module _ {S V : Type 0} (m : S → Store) (p : V → Stamps) where
   -- A record's line
 
   -- a text grew by it
-  pub line_held : (e e' : Engine S V) (n : ℕ) (r : List ℕ) (b b' : List ℕ) (res : Result Done LineFault) (text text' : List ℕ) → Results m p e n r b res → Answers m p e e' n (r ∷ []) b b'
+  pub line_held : (e e' : Engine S V) (n : ℕ) (r : List ℕ) (b b' : List ℕ) (res : Result Done LineFault) (text text' : List ℕ) → HasResult m p e n r b res → Answers m p e e' n (r ∷ []) b b'
       → text' ≡ text ++ (line_text n res b' ++ codes "\n") → GrowsByLines m p e n (r ∷ []) b text text'
   line_held e e' n r b b' res text text' result answers is l f =
       is ∙ ap (λ x. text ++ x) (ap (λ x. line_text n x b' ++ codes "\n") (result l f) ∙ ap (λ x. line_text n (record_answer n l b (decoded r)).result x ++ codes "\n") (answers.buffer l f))
@@ -87,15 +87,15 @@ module _ {S V : Type 0} (m : S → Store) (p : V → Stamps) where
   -- Lines, of which the last may still be held in a text
 
   -- From e to e' the records rs were answered: a beginning of their lines was written, and the text is the rest.
-  pub record Answered (e e' : Engine S V) (rs : List (List ℕ)) (b b' : List ℕ) (old new : Option (List ℕ)) (text : List ℕ) : Type 0 where
+  pub record IsAnswered (e e' : Engine S V) (rs : List (List ℕ)) (b b' : List ℕ) (old new : Option (List ℕ)) (text : List ℕ) : Type 0 where
     pub answers : Answers m p e e' 1 rs b b'
     pub written : List ℕ
-    pub appended : Appends old new written
+    appended : Appends old new written
     pub lines : (l : Ledger) → FitsEngine m p l e → (answer_from 1 l b rs).lines ≡ written ++ text
 
   -- more records were answered, and the text grew by their lines
-  answered_join : (e e' e'' : Engine S V) (k : ℕ) (rs qs : List (List ℕ)) (b b' b'' : List ℕ) (old new : Option (List ℕ)) (text text' : List ℕ) → k ≡ 1 + length rs → Answered e e' rs b b' old new text
-      → Answers m p e' e'' k qs b' b'' → GrowsByLines m p e' k qs b' text text' → Answered e e'' (rs ++ qs) b b'' old new text'
+  answered_join : (e e' e'' : Engine S V) (k : ℕ) (rs qs : List (List ℕ)) (b b' b'' : List ℕ) (old new : Option (List ℕ)) (text text' : List ℕ) → k ≡ 1 + length rs → IsAnswered e e' rs b b' old new text
+      → Answers m p e' e'' k qs b' b'' → GrowsByLines m p e' k qs b' text text' → IsAnswered e e'' (rs ++ qs) b b'' old new text'
   answered_join e e' e'' k rs qs b b' b'' old new text text' h one two grown = record {
     answers = answers_join e e' e'' 1 k rs qs b b' b'' h one.answers two;
     written = one.written;
@@ -104,14 +104,14 @@ module _ {S V : Type 0} (m : S → Store) (p : V → Stamps) where
         let a = answer_from 1 l b rs in
         let more = (answer_from k a.ledger a.buffer qs).lines in
         let same = ap (λ x. (answer_from k a.ledger x qs).lines) (one.answers.buffer l f) in
-        (joined rs qs 1 k h l b).2
+        (answers_of_both rs qs 1 k h l b).2
         ∙ ap (λ ls. ls ++ more) (one.lines l f)
         ∙ append_assoc one.written text more
         ∙ ap (λ ls. one.written ++ ls) (ap (λ ls. text ++ ls) (sym same) ∙ sym (grown a.ledger (one.answers.ledger l f)));
   }
 
   -- a beginning of the text was written
-  answered_handed : (e e' : Engine S V) (rs : List (List ℕ)) (b b' : List ℕ) (old mid new : Option (List ℕ)) (text text' : List ℕ) → Answered e e' rs b b' old mid text → HandsOver text text' mid new → Answered e e' rs b b' old new text'
+  answered_handed : (e e' : Engine S V) (rs : List (List ℕ)) (b b' : List ℕ) (old mid new : Option (List ℕ)) (text text' : List ℕ) → IsAnswered e e' rs b b' old mid text → HandsOver text text' mid new → IsAnswered e e' rs b b' old new text'
   answered_handed e e' rs b b' old mid new text text' before handed = record {
     answers = before.answers;
     written = before.written ++ handed.0;
@@ -120,11 +120,11 @@ module _ {S V : Type 0} (m : S → Store) (p : V → Stamps) where
   }
 
   -- so was all of it
-  answered_whole : (e e' : Engine S V) (rs : List (List ℕ)) (b b' : List ℕ) (old mid new : Option (List ℕ)) (text : List ℕ) → Answered e e' rs b b' old mid text → Appends mid new text → AppendsLines m p e 1 rs b old new
+  answered_whole : (e e' : Engine S V) (rs : List (List ℕ)) (b b' : List ℕ) (old mid new : Option (List ℕ)) (text : List ℕ) → IsAnswered e e' rs b b' old mid text → Appends mid new text → AppendsLines m p e 1 rs b old new
   answered_whole e e' rs b b' old mid new text before wrote l f = subst (Appends old new) (sym (before.lines l f)) (Appends-trans old mid new _ _ before.appended wrote)
 
   -- the text was begun
-  answered_begun : (e e' : Engine S V) (rs : List (List ℕ)) (b b' : List ℕ) (old mid new : Option (List ℕ)) (text : List ℕ) → Answered e e' rs b b' old mid text → AppendsSome mid new text → AppendsSomeLines m p e 1 rs b old new
+  answered_begun : (e e' : Engine S V) (rs : List (List ℕ)) (b b' : List ℕ) (old mid new : Option (List ℕ)) (text : List ℕ) → IsAnswered e e' rs b b' old mid text → AppendsSome mid new text → AppendsSomeLines m p e 1 rs b old new
   answered_begun e e' rs b b' old mid new text before some l f = (
     before.written ++ some.0,
     Appends-trans old mid new _ _ before.appended some.1,
@@ -139,7 +139,7 @@ module _ {S V : Type 0} (m : S → Store) (p : V → Stamps) where
     pub full : AllByRecursion IsFull done
     pub count : number ≡ 1 + length done
     pub taken : Consumes left left' (concat done)
-    pub answered : Answered e e' done b b' old new text
+    pub answered : IsAnswered e e' done b b' old new text
 
   pub no_progress : (e : Engine S V) (b : List ℕ) (left old : Option (List ℕ)) (text : List ℕ) → text ≡ [] → Progress e e 1 b b left left old old text
   no_progress e b left old text none = record {
@@ -183,10 +183,12 @@ module _ {S V : Type 0} (m : S → Store) (p : V → Stamps) where
   pub stops_handing : {e e' : Engine S V} {number : ℕ} {b b' : List ℕ} {left left' old mid new : Option (List ℕ)} {text : List ℕ} → Progress e e' number b b' left left' old mid text → AppendsSome mid new text → Stops m p e e' 1 b b' left left' old new
   stops_handing {e} {e'} {b} {b'} {left} {left'} {old} {mid} {new} {text} before some =
       let rs = before.done in record {
-        done = rs;
-        first = subst (λ qs. AreFirst qs left) (append-nil rs) (first_behind rs [] left left' before.full before.taken (first_none left'));
-        taken = (concat rs, before.taken);
-        answers = before.answered.answers;
+        breaks = record {
+          done = rs;
+          first = subst (λ qs. AreFirst qs left) (append-nil rs) (first_behind rs [] left left' before.full before.taken (first_none left'));
+          taken = (concat rs, before.taken);
+          answers = before.answered.answers;
+        };
         lines = answered_begun e e' rs b b' old mid new text before.answered some;
       }
 
@@ -195,30 +197,32 @@ module _ {S V : Type 0} (m : S → Store) (p : V → Stamps) where
   stops_behind {e} {e'} {e''} {number} {b} {b'} {b''} {left} {left'} {left''} {old} {new} {text} before stop =
       let rs = before.done in
       let done = before.answered in record {
-        done = rs ++ stop.done;
-        first = first_behind rs stop.done left left' before.full before.taken stop.first;
-        taken = (concat rs ++ stop.taken.0, Consumes-trans left left' left'' _ _ before.taken stop.taken.1);
-        answers = answers_join e e' e'' 1 number rs stop.done b b' b'' before.count done.answers stop.answers;
+        breaks = record {
+          done = rs ++ stop.done;
+          first = first_behind rs stop.done left left' before.full before.taken stop.first;
+          taken = (concat rs ++ stop.taken.0, Consumes-trans left left' left'' _ _ before.taken stop.taken.1);
+          answers = answers_join e e' e'' 1 number rs stop.done b b' b'' before.count done.answers stop.answers;
+        };
         lines = λ l f.
             let a = answer_from 1 l b rs in
             let more = (answer_from number a.ledger a.buffer stop.done).lines in
-            let all = (joined rs stop.done 1 number before.count l b).2 ∙ ap (λ ls. ls ++ more) (done.lines l f) ∙ append_assoc done.written text more in
+            let all = (answers_of_both rs stop.done 1 number before.count l b).2 ∙ ap (λ ls. ls ++ more) (done.lines l f) ∙ append_assoc done.written text more in
             (done.written, done.appended, subst (λ ls. StartsWith ls done.written) (sym all) (take-append_seam done.written (text ++ more)));
       }
 
   -- The end
 
   -- the records are over; the text holds what was not yet written of their lines
-  pub record Finished (e e' : Engine S V) (b b' : List ℕ) (left left' old new : Option (List ℕ)) (text : List ℕ) : Type 0 where
+  pub record IsFinished (e e' : Engine S V) (b b' : List ℕ) (left left' old new : Option (List ℕ)) (text : List ℕ) : Type 0 where
     pub bytes : List ℕ
     pub taken : Consumes left left' bytes
     pub all : length bytes < 2 ^ 64 → IsAtEnd left'
     pub first : AreFirst (records_of bytes) left
-    pub answered : Answered e e' (records_of bytes) b b' old new text
+    pub answered : IsAnswered e e' (records_of bytes) b b' old new text
 
   -- the last record, or none
   pub last_progress : {e e' e'' : Engine S V} {number : ℕ} {b b' b'' : List ℕ} {left left' left'' old new : Option (List ℕ)} {text text' : List ℕ}
-      → Progress e e' number b b' left left' old new text → Advances m p e' e'' number b' b'' left' left'' text text' false → Finished e e'' b b'' left left'' old new text'
+      → Progress e e' number b b' left left' old new text → Advances m p e' e'' number b' b'' left' left'' text text' false → IsFinished e e'' b b'' left left'' old new text'
   last_progress {e} {e'} {e''} {number} {b} {b'} {b''} {left} {left'} {left''} {old} {new} {text} {text'} before next =
       let rs = before.done in
       let r = next.bytes in
@@ -228,12 +232,12 @@ module _ {S V : Type 0} (m : S → Store) (p : V → Stamps) where
         taken = Consumes-trans left left' left'' _ _ before.taken next.taken;
         all = λ _. (next.short refl).1;
         first = subst (λ qs. AreFirst qs left) all (first_behind rs (records_of r) left left' before.full before.taken (end_first r left' left'' next.taken (next.short refl).1));
-        answered = subst (λ qs. Answered e e'' qs b b'' old new text') all (answered_join e e' e'' number rs (records_of r) b b' b'' old new text text' before.count before.answered next.answers next.lines);
+        answered = subst (λ qs. IsAnswered e e'' qs b b'' old new text') all (answered_join e e' e'' number rs (records_of r) b b' b'' old new text text' before.count before.answered next.answers next.lines);
       }
 
   -- the numbers are worn out
   pub worn_out : {e e' : Engine S V} {number : ℕ} {b b' : List ℕ} {left left' old new : Option (List ℕ)} {text : List ℕ} → 2 ^ 64 - 1 ≤ number
-      → Progress e e' number b b' left left' old new text → Finished e e' b b' left left' old new text
+      → Progress e e' number b b' left left' old new text → IsFinished e e' b b' left left' old new text
   worn_out {e} {e'} {number} {b} {b'} {left} {left'} {old} {new} {text} worn before =
       let rs = before.done in
       let all : rs ≡ records_of (concat rs) = sym (records_of-whole rs before.full) in
@@ -243,11 +247,11 @@ module _ {S V : Type 0} (m : S → Store) (p : V → Stamps) where
         taken = before.taken;
         first = subst (λ qs. AreFirst qs left) (append-nil rs ∙ all) (first_behind rs [] left left' before.full before.taken (first_none left'));
         all = λ few. absurd (omega (arith, long, few, worn, before.count));
-        answered = subst (λ qs. Answered e e' qs b b' old new text) all before.answered;
+        answered = subst (λ qs. IsAnswered e e' qs b b' old new text) all before.answered;
       }
 
   -- the text was written, or begun
-  pub finished_written : {e e' : Engine S V} {b b' : List ℕ} {left left' old mid : Option (List ℕ)} {text : List ℕ} {T E : Type 0} (new : Option (List ℕ)) (result : Result T E) → Finished e e' b b' left left' old mid text
+  pub finished_written : {e e' : Engine S V} {b b' : List ℕ} {left left' old mid : Option (List ℕ)} {text : List ℕ} {T E : Type 0} (new : Option (List ℕ)) (result : Result T E) → IsFinished e e' b b' left left' old mid text
       → MatchResult result (λ _. Appends mid new text) (λ _. AppendsSome mid new text)
       → MatchResult result (λ _. GoesThrough m p e e' b b' left left' old new) (λ _. Stops m p e e' 1 b b' left left' old new)
   finished_written {e} {e'} {b} {b'} {left} {left'} {old} {mid} {text} new result finished wrote =
@@ -260,7 +264,7 @@ module _ {S V : Type 0} (m : S → Store) (p : V → Stamps) where
         first = finished.first;
         file = record { answers = done.answers; lines = answered_whole e e' rs b b' old mid new text done all };
       })
-      (λ _ some. record { done = rs; first = finished.first; taken = (finished.bytes, finished.taken); answers = done.answers; lines = answered_begun e e' rs b b' old mid new text done some })
+      (λ _ some. record { breaks = record { done = rs; first = finished.first; taken = (finished.bytes, finished.taken); answers = done.answers }; lines = answered_begun e e' rs b b' old mid new text done some })
 
   -- One record
 
@@ -313,10 +317,7 @@ module _ {S V : Type 0} (m : S → Store) (p : V → Stamps) where
   -- an error once all is answered
   pub stops_at_end : {e e' : Engine S V} {b b' : List ℕ} {left left' old mid : Option (List ℕ)} (new : Option (List ℕ)) → GoesThrough m p e e' b b' left left' old mid → Keeps mid new → Stops m p e e' 1 b b' left left' old new
   stops_at_end {e} {e'} {b} {b'} {left} {left'} {old} {mid} new done kept = record {
-    done = records_of done.bytes;
-    first = done.first;
-    taken = (done.bytes, done.taken);
-    answers = done.file.answers;
+    breaks = record { done = records_of done.bytes; first = done.first; taken = (done.bytes, done.taken); answers = done.file.answers };
     lines = λ l f. ((answer_from 1 l b (records_of done.bytes)).lines, Appends-kept old mid new _ (done.file.lines l f) kept, take-length (answer_from 1 l b (records_of done.bytes)).lines);
   }
 

@@ -1,14 +1,13 @@
 -- The answer to a call file: a line for each of its records, and what its calls leave.
 use Rattle.std.specs.Prelude.{ℕ, zero, suc, ◌+◌, List, [], ◌∷◌, ◌++◌, Some, None, Err, codes, Option, Result}
 use Rattle.std.specs.List.{onto_first}
-use Rattle.std.specs.Result.{result_map_both}
+use Rattle.refusals.specs.Results.{result_map_err}
 use Rattle.ledger.specs.declared.Call.{Call}
 use Rattle.ledger.specs.declared.Done.{Done}
 use Rattle.ledger.specs.Ledger.{Ledger}
 use Rattle.ledger.specs.Calls.{step}
-use Rattle.ledger.specs.History.{Made}
+use Rattle.ledger.specs.History.{call_made, Made}
 use Rattle.records.specs.Format.{decoded}
-use Rattle.engine.specs.Steps.{call_made}
 use Rattle.answer_lines.specs.declared.LineFault.{LineFault}
 use Rattle.answer_lines.specs.declared.LineFault.TheVariants.{Malformed, Engine}
 use Rattle.callfile.specs.Lines.{line_text}
@@ -40,7 +39,7 @@ record_answer n l b None = record { result = Err (Malformed n); buffer = b; ledg
 record_answer n l b (Some c) =
     let o = step l c b in
     record {
-      result = result_map_both (λ d. d) Engine o.answer;
+      result = result_map_err Engine o.answer;
       buffer = o.buffer;
       ledger = o.ledger;
       calls = call_made c b o.answer o.buffer ∷ [];

@@ -5,18 +5,18 @@ use Rattle.std.specs.Io.KnownBytes.{Appends, Consumes}
 use Rattle.ledger.specs.declared.Done.{Done}
 use Rattle.ledger.specs.Ledger.{Ledger, Limits}
 use Rattle.ledger.specs.History.{Made, after}
-use Rattle.versions.specs.Meaning.{Store}
-use Rattle.validation.specs.Meaning.{Stamps}
+use Rattle.versions.specs.Stores.{Store}
+use Rattle.validation.specs.Stamps.{Stamps}
 use Rattle.engine.specs.declared.engine.Engine.{Engine}
 use Rattle.engine.specs.Parts.{FitsEngine}
-use Rattle.engine.specs.Steps.{Led, Lawfully, Idle}
+use Rattle.engine.specs.Steps.{LeadsTo, LeadsLawfullyTo, StaysIdle}
 use Rattle.records.specs.Format.{decoded}
 use Rattle.answer_lines.specs.declared.LineFault.{LineFault}
 use Rattle.callfile.specs.Files.{records_of, record_answer, answer_from}
 
 -- record n has this result, whatever ledger fits the engine before
-abbrev pub Results : {S V : Type 0} → (S → Store) → (V → Stamps) → Engine S V → ℕ → List ℕ → List ℕ → Result Done LineFault → Type 0
-Results m p e n bytes b r = (l : Ledger) → FitsEngine m p l e → r ≡ (record_answer n l b (decoded bytes)).result
+abbrev pub HasResult : {S V : Type 0} → (S → Store) → (V → Stamps) → Engine S V → ℕ → List ℕ → List ℕ → Result Done LineFault → Type 0
+HasResult m p e n bytes b r = (l : Ledger) → FitsEngine m p l e → r ≡ (record_answer n l b (decoded bytes)).result
 
 -- From e to e' the records rs were answered, from number n on; b was in the buffer before, b' after. m and p are the meanings of the store and of the validator.
 pub record Answers {S V : Type 0} (m : S → Store) (p : V → Stamps) (e e' : Engine S V) (n : ℕ) (rs : List (List ℕ)) (b b' : List ℕ) : Type 0 where
@@ -24,9 +24,9 @@ pub record Answers {S V : Type 0} (m : S → Store) (p : V → Stamps) (e e' : E
   pub buffer : (l : Ledger) → FitsEngine m p l e → b' ≡ (answer_from n l b rs).buffer
   pub ledger : (l : Ledger) → FitsEngine m p l e → FitsEngine m p (answer_from n l b rs).ledger e'
   -- each history that led to the engine goes on with exactly these calls, leads to the engine afterwards, and is lawful
-  pub history : (k : Limits) (ms : List Made) → Led m p k ms e → Lawfully m p k ((answer_from n (after k ms) b rs).calls ++ ms) e'
+  pub history : (k : Limits) (ms : List Made) → LeadsTo m p k ms e → LeadsLawfullyTo m p k ((answer_from n (after k ms) b rs).calls ++ ms) e'
   -- an engine from a refused set-up touches neither store nor validator
-  pub idle : Idle e e'
+  pub idle : StaysIdle e e'
 
 -- known bytes grow by the lines of the records rs, from number n on, whatever ledger fits the engine before
 abbrev pub AppendsLines : {S V : Type 0} → (S → Store) → (V → Stamps) → Engine S V → ℕ → List (List ℕ) → List ℕ → Option (List ℕ) → Option (List ℕ) → Type 0
@@ -55,10 +55,13 @@ pub record AnswersFile {S V : Type 0} (m : S → Store) (p : V → Stamps) (e e'
   pub lines : AppendsLines m p e 1 (records_of bytes) b old new
 
 -- From e to e' the first of the records left, the next of which is number n, were answered, and then an error came.
-pub record Stops {S V : Type 0} (m : S → Store) (p : V → Stamps) (e e' : Engine S V) (n : ℕ) (b b' : List ℕ) (left left' old new : Option (List ℕ)) : Type 0 where
+pub record Breaks {S V : Type 0} (m : S → Store) (p : V → Stamps) (e e' : Engine S V) (n : ℕ) (b b' : List ℕ) (left left' : Option (List ℕ)) : Type 0 where
   pub done : List (List ℕ)
   pub first : AreFirst done left
   pub taken : ConsumesSome left left'
   pub answers : Answers m p e e' n done b b'
-  -- what was written is a beginning of their lines
-  pub lines : AppendsSomeLines m p e n done b old new
+
+-- The same, and what was written grew from old to new by a beginning of their lines.
+pub record Stops {S V : Type 0} (m : S → Store) (p : V → Stamps) (e e' : Engine S V) (n : ℕ) (b b' : List ℕ) (left left' old new : Option (List ℕ)) : Type 0 where
+  pub breaks : Breaks m p e e' n b b' left left'
+  pub lines : AppendsSomeLines m p e n breaks.done b old new

@@ -2,13 +2,13 @@
 use Rattle.std.specs.Prelude.{◌≡◌, ℕ, ◌^◌, ◌<◌, Bool, true, false, List, ◌++◌, length, Option}
 use Rattle.std.specs.Io.KnownBytes.{Appends, Consumes, IsAtEnd}
 use Rattle.ledger.specs.Ledger.{Ledger}
-use Rattle.versions.specs.Meaning.{Store}
-use Rattle.validation.specs.Meaning.{Stamps}
+use Rattle.versions.specs.Stores.{Store}
+use Rattle.validation.specs.Stamps.{Stamps}
 use Rattle.engine.specs.declared.engine.Engine.{Engine}
 use Rattle.engine.specs.Parts.{FitsEngine}
 use Rattle.records.specs.declared.codec.TheConstants.{RECORD}
 use Rattle.callfile.specs.Files.{records_of, answer_from}
-use Rattle.callfile.specs.Runs.{Answers, AnswersFile, AreFirst, ConsumesSome}
+use Rattle.callfile.specs.Runs.{Answers, AnswersFile, AreFirst}
 
 -- a text grows by the lines of the records rs, from number n on, whatever ledger fits the engine before
 abbrev pub GrowsByLines : {S V : Type 0} → (S → Store) → (V → Stamps) → Engine S V → ℕ → List (List ℕ) → List ℕ → List ℕ → List ℕ → Type 0
@@ -26,13 +26,6 @@ pub record Advances {S V : Type 0} (m : S → Store) (p : V → Stamps) (e e' : 
   pub short : is_whole ≡ false → (length bytes < RECORD) × IsAtEnd left'
   pub answers : Answers m p e e' n (records_of bytes) b b'
   pub lines : GrowsByLines m p e n (records_of bytes) b text text'
-
--- From e to e' the first of the records left, the next of which is number n, were answered, and then an error came.
-pub record Breaks {S V : Type 0} (m : S → Store) (p : V → Stamps) (e e' : Engine S V) (n : ℕ) (b b' : List ℕ) (left left' : Option (List ℕ)) : Type 0 where
-  pub done : List (List ℕ)
-  pub first : AreFirst done left
-  pub taken : ConsumesSome left left'
-  pub answers : Answers m p e e' n done b b'
 
 -- From e to e' all that was taken was answered, and all that is left was taken, if the numbers sufficed.
 pub record GoesThrough {S V : Type 0} (m : S → Store) (p : V → Stamps) (e e' : Engine S V) (b b' : List ℕ) (left left' old new : Option (List ℕ)) : Type 0 where

@@ -1,7 +1,7 @@
 ghost use Rattle.std.specs.Prelude.{◌≡◌, [], ◌∷◌, None, Err, OnErr};
 ghost use Rattle.answer_lines.specs.declared.LineFault.TheVariants.{Malformed};
 ghost use Rattle.records.specs.Format.{decoded};
-ghost use Rattle.callfile.specs.Runs.{Results, Answers};
+ghost use Rattle.callfile.specs.Runs.{HasResult, Answers};
 
 use answer_lines::LineFault;
 use engine::engine::Engine;
@@ -19,7 +19,7 @@ pub fn answer<S: VersionStore, V: Validator>(
     buffer: &mut [u64],
 ) -> Result<Done, LineFault>
     ensures malformed { decoded bytes.now ≡ None → result ≡ Err (Malformed number) }
-    ensures result { Results S.meaning V.meaning engine.old number bytes.now buffer.old result }
+    ensures result { HasResult S.meaning V.meaning engine.old number bytes.now buffer.old result }
     ensures refusal { OnErr result ((engine.new ≡ engine.old) × (buffer.new ≡ buffer.old)) }
     ensures answers { Answers S.meaning V.meaning engine.old engine.new number
         (bytes.now ∷ []) buffer.old buffer.new }

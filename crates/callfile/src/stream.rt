@@ -2,9 +2,8 @@ ghost use Rattle.std.specs.Prelude.{◌≡◌, ℕ, ◌^◌, ◌<◌, ◌≤◌,
 ghost use Rattle.std.specs.Io.Buffered.{reader_buffer, reader_remaining, writer_buffer, writer_contents};
 ghost use Rattle.std.specs.String.{string_bytes};
 ghost use Rattle.std.specs.Io.KnownBytes.{Appends, Consumes, IsAtEnd};
-ghost use Rattle.callfile.specs.Files.{records_of};
-ghost use Rattle.callfile.specs.Runs.{Answers, AnswersFile, AppendsSome, ConsumesSome, Stops};
-ghost use Rattle.callfile.specs.Steps.{GoesThrough, Advances, Breaks, GrowsByLines, HandsOver};
+ghost use Rattle.callfile.specs.Runs.{Answers, AnswersFile, AppendsSome, Breaks, ConsumesSome, Stops};
+ghost use Rattle.callfile.specs.Steps.{GoesThrough, Advances, GrowsByLines, HandsOver};
 
 use crate::answer::answer;
 use crate::line::Line;

@@ -5,18 +5,18 @@ use Rattle.std.specs.Result.{is_ok}
 use Rattle.std.proofs.lemmas.Grind.{common_steps}
 use Rattle.stamped.specs.declared.TheConstants.{MAX_KEYS}
 use Rattle.versions.specs.declared.store.TheConstants.{MAX_CELLS}
-use Rattle.versions.specs.Meaning.{empty, new_store, set_up_answer}
+use Rattle.versions.specs.Stores.{empty, new_store, sizes_check}
 use Rattle.versions.proofs.Meanings.{store_same, set_up_limits}
 use Rattle.versions.proofs.Lists.{sum_none}
 use Rattle.chain.specs.declared.cell.Cell.{Cell}
-use Rattle.chain.specs.Links.{cell_at, cleared, times, Once, before, laid}
-use Rattle.chain.specs.Store.{chain_versions, store_of_chains, chain_set_up}
-use Rattle.chain.proofs.Chains.{Chain}
-use Rattle.chain.proofs.Holdings.{Held, settled}
+use Rattle.chain.specs.Links.{cell_at, cleared, times, HasNoRepeat, before, laid}
+use Rattle.chain.specs.Store.{chain_versions, store_of_chains, chain_check}
+use Rattle.chain.proofs.Chains.{IsChain}
+use Rattle.chain.proofs.Holdings.{IsHeld, settled}
 use Rattle.chain.specs.Laws.{kept_and_unused}
-use Rattle.chain.proofs.Facts.{Facts}
+use Rattle.chain.proofs.Facts.{IsChainStore}
 
-pub length_laid : (n : ℕ) → length (laid n) ≡ n
+length_laid : (n : ℕ) → length (laid n) ≡ n
 length_laid zero = refl
 length_laid (suc n) = omega (arith, length_push (laid n) (cleared (before n)), length_laid n)
 
@@ -33,12 +33,12 @@ times_downs : (i n : ℕ) → n ≤ i → times i (downs n) ≡ 0
 times_downs i zero past = refl
 times_downs i (suc n) past = grind (arith, common_steps, times_downs i n)
 
-once_downs : (n : ℕ) → Once (downs n)
+once_downs : (n : ℕ) → HasNoRepeat (downs n)
 once_downs zero i = omega arith
 once_downs (suc n) i = grind (arith, common_steps, times_downs n n, once_downs n i)
 
 -- a chain does not see a cell more
-chain_append : (cells : List Cell) (x : Cell) (link : Option ℕ) (is : List ℕ) → Chain cells link is → Chain (cells ++ x ∷ []) link is
+chain_append : (cells : List Cell) (x : Cell) (link : Option ℕ) (is : List ℕ) → IsChain cells link is → IsChain (cells ++ x ∷ []) link is
 chain_append cells x link [] c = c
 chain_append cells x link (i ∷ is) c = (
   c.0,
@@ -46,7 +46,7 @@ chain_append cells x link (i ∷ is) c = (
   rw (get_or_append_left cells (x ∷ []) (cleared None) i c.1) (chain_append cells x (cell_at cells i).next is c.2),
 )
 
-chain_laid : (n : ℕ) → Chain (laid n) (before n) (downs n)
+chain_laid : (n : ℕ) → IsChain (laid n) (before n) (downs n)
 chain_laid zero = refl
 chain_laid (suc n) = (
   refl,
@@ -54,13 +54,13 @@ chain_laid (suc n) = (
   rw (get_or_at (laid n) (cleared (before n)) [] (cleared None) n (length_laid n)) (chain_append (laid n) (cleared (before n)) (before n) (downs n) (chain_laid n)),
 )
 
-abbrev pub no_heads : ℕ → List (Option ℕ)
+abbrev no_heads : ℕ → List (Option ℕ)
 no_heads keys = replicate keys None
 
 no_head : (keys k : ℕ) → get_or (no_heads keys) k None ≡ None
 no_head keys k = grind (arith, common_steps)
 
-held_laid : (keys n : ℕ) → Held (no_heads keys) (laid n) (λ k. []) (before n) (downs n) None []
+held_laid : (keys n : ℕ) → IsHeld (no_heads keys) (laid n) (λ k. []) (before n) (downs n) None []
 held_laid keys n =
     record {
       keyed = no_head keys;
@@ -70,14 +70,14 @@ held_laid keys n =
       whole = omega (arith, length_downs n, length_laid n, sum_none (length (no_heads keys)));
     }
 
-pub versions_laid : (keys n k : ℕ) → chain_versions (no_heads keys) (laid n) k ≡ []
+versions_laid : (keys n k : ℕ) → chain_versions (no_heads keys) (laid n) k ≡ []
 versions_laid keys n k = rw (no_head keys k) refl
 
-pub laid_means : (keys n : ℕ) → store_of_chains (no_heads keys) (laid n) ≡ empty keys n
+laid_means : (keys n : ℕ) → store_of_chains (no_heads keys) (laid n) ≡ empty keys n
 laid_means keys n =
     store_same (length-replicate {A = Option ℕ} keys None) (length_laid n) (versions_laid keys n)
 
-pub facts_laid : (keys n : ℕ) → keys ≤ MAX_KEYS → n ≤ MAX_CELLS → eqb keys 0 ≡ eqb n 0 → Facts (no_heads keys) (laid n) (before n) n
+facts_laid : (keys n : ℕ) → keys ≤ MAX_KEYS → n ≤ MAX_CELLS → eqb keys 0 ≡ eqb n 0 → IsChainStore (no_heads keys) (laid n) (before n) n
 facts_laid keys n few small both =
     let s = settled (no_heads keys) (laid n) (λ k. []) (before n) (downs n) (held_laid keys n) in
     record {
@@ -99,26 +99,26 @@ laid_more cells i unused low is front =
     )
 
 -- what the check has seen to
-pub record Passed (keys heads cells : ℕ) : Type 0 where
-  pub answer : chain_set_up keys heads cells ≡ Ok tt
+pub record PassesSetUp (keys heads cells : ℕ) : Type 0 where
+  pub answer : chain_check keys heads cells ≡ Ok tt
   pub heads_keys : heads ≡ keys
-  pub sizes : is_ok (set_up_answer keys cells) ≡ true
+  pub sizes : is_ok (sizes_check keys cells) ≡ true
 
-pub passed : (keys heads cells : ℕ) → is_err (chain_set_up keys heads cells) ≡ false → Passed keys heads cells
-passed keys heads cells ok = record {
+pub set_up_passed : (keys heads cells : ℕ) → is_err (chain_check keys heads cells) ≡ false → PassesSetUp keys heads cells
+set_up_passed keys heads cells ok = record {
   answer = grind (arith, common_steps);
   heads_keys = grind (arith, common_steps);
   sizes = grind (arith, common_steps);
 }
 
 -- a store just made, as the calls that clear its heads and link its cells tell it
-pub record Making (keys h n : ℕ) (heads : List (Option ℕ)) (cells : List Cell) (unused : Option ℕ) : Type 0 where
-  pub facts : Facts heads cells unused (length cells)
-  pub empty : store_of_chains heads cells ≡ new_store (chain_set_up keys h n) keys n
+pub record IsMade (keys h n : ℕ) (heads : List (Option ℕ)) (cells : List Cell) (unused : Option ℕ) : Type 0 where
+  pub facts : IsChainStore heads cells unused (length cells)
+  pub empty : store_of_chains heads cells ≡ new_store (chain_check keys h n) keys n
 
-pub making : (keys h n : ℕ) (heads : List (Option ℕ)) (cells : List Cell) (unused : Option ℕ) → is_err (chain_set_up keys h n) ≡ false → heads ≡ no_heads h → cells ≡ laid n → unused ≡ before n → Making keys h n heads cells unused
+pub making : (keys h n : ℕ) (heads : List (Option ℕ)) (cells : List Cell) (unused : Option ℕ) → is_err (chain_check keys h n) ≡ false → heads ≡ no_heads h → cells ≡ laid n → unused ≡ before n → IsMade keys h n heads cells unused
 making keys h n heads cells unused ok is-heads is-cells is-unused =
-    let p = passed keys h n ok in
+    let p = set_up_passed keys h n ok in
     let limits = set_up_limits keys n p.sizes in
     let long : length cells ≡ n = ap length is-cells ∙ length_laid n in
     let e : heads ≡ no_heads keys = is-heads ∙ ap no_heads p.heads_keys in

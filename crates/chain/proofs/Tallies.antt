@@ -2,8 +2,8 @@
 use Rattle.std.proofs.Common.{◌≡◌, ℕ, zero, suc, ◌+◌, ◌<◌, ◌≤◌, cond, eqb, List, ◌∷◌, ◌++◌, arith}
 use Rattle.std.proofs.lemmas.List.Sums.{sum_by-append, sum_by-cons}
 use Rattle.std.proofs.lemmas.Grind.{common_steps}
-use Rattle.versions.specs.Meaning.{sum_below}
-use Rattle.chain.specs.Links.{times, Once}
+use Rattle.versions.specs.Stores.{sum_below}
+use Rattle.chain.specs.Links.{times, HasNoRepeat}
 
 pub times_cons : (i j : ℕ) (js : List ℕ) → times i (j ∷ js) ≡ cond (eqb i j) 1 0 + times i js
 times_cons i j js = sum_by-cons (λ k. cond (eqb i k) 1 0) j js
@@ -18,10 +18,10 @@ pub times_append : (i : ℕ) (is js : List ℕ) → times i (is ++ js) ≡ times
 times_append i is js = sum_by-append (λ j. cond (eqb i j) 1 0) is js
 
 -- the first of a list stands nowhere else in it
-pub once_first : (i : ℕ) (is : List ℕ) → Once (i ∷ is) → times i is ≡ 0
+pub once_first : (i : ℕ) (is : List ℕ) → HasNoRepeat (i ∷ is) → times i is ≡ 0
 once_first i is once = omega (arith, once i, times_self i is)
 
-pub once_rest : (i : ℕ) (is : List ℕ) → Once (i ∷ is) → Once is
+pub once_rest : (i : ℕ) (is : List ℕ) → HasNoRepeat (i ∷ is) → HasNoRepeat is
 once_rest i is once j = omega (arith, once j, times_cons j i is)
 
 -- one of the numbers, and two of them, are no more than the sum

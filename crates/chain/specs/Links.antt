@@ -2,7 +2,7 @@
 use Rattle.std.specs.Prelude.{◌≡◌, ℕ, zero, suc, ◌≤◌, Bool, true, false, ◌&&◌, List, [], ◌∷◌, ◌++◌, length, Some, None, Option, ◌==◌, nat_lt, slice_index_or, slice_set}
 use Rattle.std.specs.List.{count_by, find}
 use Rattle.std.specs.Option.{option_map_or, option_and_then}
-use Rattle.versions.specs.Meaning.{Revision, base}
+use Rattle.versions.specs.Stores.{Revision, base}
 use Rattle.versions.specs.declared.store.Version.{Version}
 use Rattle.chain.specs.declared.cell.Cell.{Cell}
 
@@ -24,25 +24,25 @@ walk cells zero (Some i) = []
 walk cells (suc n) (Some i) = i ∷ walk cells n (cell_at cells i).next
 
 -- whether the links from a link on stay inside the cells and end after so many at most
-abbrev pub ends : List Cell → ℕ → Option ℕ → Bool
-ends cells n None = true
-ends cells zero (Some i) = false
-ends cells (suc n) (Some i) = nat_lt i (length cells) && ends cells n (cell_at cells i).next
+abbrev pub ends_within : List Cell → ℕ → Option ℕ → Bool
+ends_within cells n None = true
+ends_within cells zero (Some i) = false
+ends_within cells (suc n) (Some i) = nat_lt i (length cells) && ends_within cells n (cell_at cells i).next
 
 -- the list of cells from a link on: no list has more cells than there are
 abbrev pub list_from : List Cell → Option ℕ → List ℕ
 list_from cells link = walk cells (length cells) link
 
 abbrev pub Ends : List Cell → Option ℕ → Type 0
-Ends cells link = ends cells (length cells) link ≡ true
+Ends cells link = ends_within cells (length cells) link ≡ true
 
 -- how often an index stands in a list
 abbrev pub times : ℕ → List ℕ → ℕ
 times i is = count_by (λ j. i == j) is
 
 -- no index stands in the list twice
-abbrev pub Once : List ℕ → Type 0
-Once is = (i : ℕ) → times i is ≤ 1
+abbrev pub HasNoRepeat : List ℕ → Type 0
+HasNoRepeat is = (i : ℕ) → times i is ≤ 1
 
 -- the version that a cell holds
 abbrev pub content_of : Cell → Revision
@@ -60,8 +60,8 @@ abbrev pub first_below : ℕ → List Cell → List ℕ → Option ℕ
 first_below tick cells is = find (λ i. nat_lt (cell_at cells i).stamp tick) is
 
 -- where the list goes on behind a cell
-abbrev pub behind : List Cell → Option ℕ → Option ℕ
-behind cells link = option_and_then (λ i. (cell_at cells i).next) link
+abbrev pub link_behind : List Cell → Option ℕ → Option ℕ
+link_behind cells link = option_and_then (λ i. (cell_at cells i).next) link
 
 -- the cells with a list ended at a cell
 abbrev pub ended_at : List Cell → Option ℕ → List Cell

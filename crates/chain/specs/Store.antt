@@ -1,9 +1,9 @@
 -- What heads and cells mean as a version store.
-use Rattle.std.specs.Prelude.{◌≡◌, ℕ, ◌+◌, ◌≤◌, if◌then◌else◌, List, map, length, None, Ok, Err, Option, Result, ◌==◌, nat_le, slice_index_or}
-use Rattle.std.specs.Result.{result_and, result_map_both}
-use Rattle.versions.specs.Meaning.{Revision, Store, sum_below, Falling, kept, pruned, pruned_count, set_up_answer}
+use Rattle.std.specs.Prelude.{◌≡◌, ℕ, ◌+◌, ◌≤◌, if◌then◌else◌, List, map, length, None, Ok, Err, Option, Result, ◌==◌, slice_index_or}
+use Rattle.std.specs.Result.{result_and}
+use Rattle.refusals.specs.Results.{result_map, result_map_err}
+use Rattle.versions.specs.Stores.{Revision, Store, sum_below, key_check, AreFalling, kept, pruned, pruned_count, sizes_check}
 use Rattle.versions.specs.declared.fault.StoreFault.{StoreFault}
-use Rattle.versions.specs.declared.fault.StoreFault.TheVariants.{KeyOutside}
 use Rattle.chain.specs.declared.fault.ChainFault.{ChainFault}
 use Rattle.chain.specs.declared.fault.ChainFault.TheVariants.{Sizes, Heads}
 use Rattle.chain.specs.declared.cell.Cell.{Cell}
@@ -25,38 +25,37 @@ abbrev pub ChainsEnd : List (Option ℕ) → List Cell → Type 0
 ChainsEnd heads cells = (k : ℕ) → Ends cells (slice_index_or heads k None)
 
 -- no cell stands twice in the chains of the keys and the list of unused cells
-abbrev pub NoneShared : List (Option ℕ) → List Cell → Option ℕ → Type 0
-NoneShared heads cells unused =
+abbrev pub ShareNone : List (Option ℕ) → List Cell → Option ℕ → Type 0
+ShareNone heads cells unused =
     (i : ℕ)
     → times i (list_from cells unused) + sum_below (length heads) (λ k. times i (chain_of heads cells k)) ≤ 1
 
 -- together they hold as many cells as there are
-abbrev pub AllHeld : List (Option ℕ) → List Cell → Option ℕ → Type 0
-AllHeld heads cells unused =
+abbrev pub HoldAll : List (Option ℕ) → List Cell → Option ℕ → Type 0
+HoldAll heads cells unused =
     length (list_from cells unused) + sum_below (length heads) (λ k. length (chain_of heads cells k)) ≡ length cells
 
 -- how the chains and the list of unused cells lie in the cells
-pub record Sound (heads : List (Option ℕ)) (cells : List Cell) (unused : Option ℕ) : Type 0 where
+pub record IsWellLinked (heads : List (Option ℕ)) (cells : List Cell) (unused : Option ℕ) : Type 0 where
   pub chains : ChainsEnd heads cells
   pub rest : Ends cells unused
-  pub shared : NoneShared heads cells unused
-  pub held : AllHeld heads cells unused
+  pub shared : ShareNone heads cells unused
+  pub held : HoldAll heads cells unused
 
 -- what a prune of all chains leaves of the cells, and of the link to the unused ones, with so many cells given back
-pub record Pruned (horizon : ℕ) (heads : List (Option ℕ)) (cells left : List Cell) (spare : Option ℕ) (freed : ℕ) : Type 0 where
-  pub sound : Sound heads left spare
-  pub falling : Falling (chain_versions heads left)
+pub record IsPruned (horizon : ℕ) (heads : List (Option ℕ)) (cells left : List Cell) (spare : Option ℕ) (freed : ℕ) : Type 0 where
+  pub sound : IsWellLinked heads left spare
+  pub falling : AreFalling (chain_versions heads left)
   pub after : store_of_chains heads left ≡ pruned (store_of_chains heads cells) horizon
   pub count : freed ≡ pruned_count (store_of_chains heads cells) horizon
   pub fewer : kept (store_of_chains heads left) + freed ≡ kept (store_of_chains heads cells)
 
 -- where a key's chain begins
 abbrev pub head_answer : List (Option ℕ) → ℕ → Result (Option ℕ) StoreFault
-head_answer heads k =
-    if nat_le (length heads) k then Err (KeyOutside k) else Ok (slice_index_or heads k None)
+head_answer heads k = result_map (λ _. slice_index_or heads k None) (key_check (length heads) k)
 
 -- set-up: the sizes, as of every store, then the heads
-abbrev pub chain_set_up : ℕ → ℕ → ℕ → Result (Unit {0}) ChainFault
-chain_set_up keys heads cells =
-    result_and (result_map_both (λ u. u) Sizes (set_up_answer keys cells))
+abbrev pub chain_check : ℕ → ℕ → ℕ → Result (Unit {0}) ChainFault
+chain_check keys heads cells =
+    result_and (result_map_err Sizes (sizes_check keys cells))
     (if heads == keys then Ok tt else Err (Heads heads))

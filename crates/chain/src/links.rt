@@ -2,9 +2,9 @@
 // Functions over lent slices and no methods of the store: while links are moved, its ghost fields do not hold.
 ghost use Rattle.std.specs.Prelude.{◌≡◌, ◌^◌, ◌<◌, map, length, Some, None, slice_index_or, slice_set};
 ghost use Rattle.std.specs.Option.{ForSome};
-ghost use Rattle.versions.specs.Meaning.{as_of, Falling, pair_of};
-ghost use Rattle.chain.specs.Links.{Ends, Once, list_from, version_at, version_of, first_below, behind, ended_at, given_back, cell_at, filled, before, laid};
-ghost use Rattle.chain.specs.Store.{Sound, Pruned, chain_versions};
+ghost use Rattle.versions.specs.Stores.{as_of, AreFalling, pair_of};
+ghost use Rattle.chain.specs.Links.{Ends, HasNoRepeat, list_from, version_at, version_of, first_below, link_behind, ended_at, given_back, cell_at, filled, before, laid};
+ghost use Rattle.chain.specs.Store.{IsWellLinked, IsPruned, chain_versions};
 
 use crate::cell::{Cell, Link};
 use versions::store::Version;
@@ -88,7 +88,7 @@ pub fn push(heads: &mut [Link], cells: &mut [Cell], cell: u16, version: Version)
 /// Ends the list from a link on behind its first cell stamped below the tick, and answers where it went on there.
 pub fn cut_below(cells: &mut [Cell], from: Link, tick: u32) -> Link
     requires { Ends cells.old from }
-    ensures tail { result ≡ behind cells.old
+    ensures tail { result ≡ link_behind cells.old
         (first_below tick cells.old (list_from cells.old from)) }
     ensures after { cells.new ≡ ended_at cells.old
         (first_below tick cells.old (list_from cells.old from)) }
@@ -101,7 +101,7 @@ pub fn cut_below(cells: &mut [Cell], from: Link, tick: u32) -> Link
 /// Answers the link to the unused cells, and how many came to them.
 pub fn give_back(cells: &mut [Cell], from: Link, unused: Link) -> (Link, u16)
     requires ended { Ends cells.old from }
-    requires once { Once (list_from cells.old from) }
+    requires once { HasNoRepeat (list_from cells.old from) }
     requires few { length cells.old < 2 ^ 16 }
     ensures unused { result.0 ≡ (given_back cells.old (list_from cells.old from) unused).1 }
     ensures count { result.1 ≡ length (list_from cells.old from) }
@@ -125,10 +125,10 @@ pub fn give_back(cells: &mut [Cell], from: Link, unused: Link) -> (Link, u16)
 /// Cuts the outdated versions off every key's chain and gives their cells back.
 /// Answers the link to the unused cells, and how many came to them.
 pub fn prune_chains(heads: &[Link], cells: &mut [Cell], unused: Link, horizon: u32) -> (Link, u16)
-    requires sound { Sound heads.now cells.old unused }
-    requires falling { Falling (chain_versions heads.now cells.old) }
+    requires sound { IsWellLinked heads.now cells.old unused }
+    requires falling { AreFalling (chain_versions heads.now cells.old) }
     requires few { length cells.old < 2 ^ 16 }
-    ensures { Pruned horizon heads.now cells.old cells.new result.0 result.1 }
+    ensures { IsPruned horizon heads.now cells.old cells.new result.0 result.1 }
 {
     let mut unused = unused;
     let mut freed = 0;

@@ -1,9 +1,9 @@
 ghost use Rattle.std.specs.Prelude.{◌≡◌, ◌+◌, ◌≤◌, length, replicate, None, ◌==◌};
 ghost use Rattle.stamped.specs.declared.TheConstants.{MAX_KEYS};
 ghost use Rattle.versions.specs.declared.store.TheConstants.{MAX_CELLS};
-ghost use Rattle.versions.specs.Meaning.{kept, new_store, Falling};
+ghost use Rattle.versions.specs.Stores.{kept, new_store, AreFalling};
 ghost use Rattle.chain.specs.Links.{Ends, before, laid};
-ghost use Rattle.chain.specs.Store.{store_of_chains, ChainsEnd, NoneShared, AllHeld, chain_set_up, head_answer, chain_versions};
+ghost use Rattle.chain.specs.Store.{store_of_chains, ChainsEnd, ShareNone, HoldAll, chain_check, head_answer, chain_versions};
 
 use crate::cell::{Cell, Link};
 use crate::fault::ChainFault;
@@ -23,10 +23,10 @@ pub struct ChainStore<'h, 'c> {
     ghost both: { (length heads.now == 0) ≡ (length cells.now == 0) },
     ghost chains: { ChainsEnd heads.now cells.now },
     ghost rest: { Ends cells.now unused },
-    ghost shared: { NoneShared heads.now cells.now unused },
-    ghost held: { AllHeld heads.now cells.now unused },
+    ghost shared: { ShareNone heads.now cells.now unused },
+    ghost held: { HoldAll heads.now cells.now unused },
     ghost counted: { kept (store_of_chains heads.now cells.now) + free ≡ length cells.now },
-    ghost falling: { Falling (chain_versions heads.now cells.now) },
+    ghost falling: { AreFalling (chain_versions heads.now cells.now) },
 }
 
 impl<'h, 'c> ChainStore<'h, 'c> {
@@ -34,7 +34,7 @@ impl<'h, 'c> ChainStore<'h, 'c> {
 
     /// Whether a chain store can be made with so many keys over so many heads and cells.
     pub fn check(keys: u16, heads: usize, cells: usize) -> Result<(), ChainFault>
-        ensures { result ≡ chain_set_up keys heads cells }
+        ensures { result ≡ chain_check keys heads cells }
     {
         check_sizes(keys, cells)?;
         if heads != usize::from(keys) {
@@ -46,7 +46,7 @@ impl<'h, 'c> ChainStore<'h, 'c> {
     /// An empty store with all cells cleared and unused; one without keys and cells where the check refuses.
     pub fn make(keys: u16, heads: &'h mut [Link], cells: &'c mut [Cell]) -> ChainStore<'h, 'c>
         ensures empty { chain_meaning result ≡
-            new_store (chain_set_up keys (length heads.old) (length cells.old)) keys (length cells.old) }
+            new_store (chain_check keys (length heads.old) (length cells.old)) keys (length cells.old) }
         ensures cleared { (heads_of result ≡ replicate (length (heads_of result)) None) ×
             (cells_of result ≡ laid (length (cells_of result))) }
         ensures unused { unused_of result ≡ before (length (cells_of result)) }

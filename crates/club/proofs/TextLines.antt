@@ -28,9 +28,9 @@ record IsMore (xs : List ℕ) : Type 0 where
   part : slice_split (λ b. b == 10) xs ≡ first ∷ slice_split (λ b. b == 10) (drop_through 10 xs)
   taken : take_through 10 xs ≡ first ++ (10 ∷ [])
 
-cut : (xs : List ℕ) → IsOne xs ⊎ IsMore xs
-cut [] = inl (record { none = λ i h e. absurd (omega (arith, h)); part = refl; taken = refl; dropped = refl })
-cut (x ∷ xs) = go (x == 10) refl (cut xs)
+one_or_more : (xs : List ℕ) → IsOne xs ⊎ IsMore xs
+one_or_more [] = inl (record { none = λ i h e. absurd (omega (arith, h)); part = refl; taken = refl; dropped = refl })
+one_or_more (x ∷ xs) = go (x == 10) refl (one_or_more xs)
   where
     none_more : (x == 10) ≡ false → HasNone xs → HasNone (x ∷ xs)
     none_more e n zero h is = eqb-false x 10 e is
@@ -61,7 +61,7 @@ lines_of_more f (p ∷ ps) some = refl
 
 -- the first line of a text, and the lines behind it
 pub lines-first : (xs : List ℕ) → 0 < length xs → lines xs ≡ text_of (take_through 10 xs) ∷ lines (drop_through 10 xs)
-lines-first xs some = go (cut xs)
+lines-first xs some = go (one_or_more xs)
   where
     go : IsOne xs ⊎ IsMore xs → lines xs ≡ text_of (take_through 10 xs) ∷ lines (drop_through 10 xs)
     go (inl one) =

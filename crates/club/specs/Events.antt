@@ -1,13 +1,13 @@
 -- What each event of an afternoon does, as a procedure: what is said, and the recalculation that stays open.
 use Rattle.std.specs.Prelude.{ℕ, Some, None, Option, Ok, Err, IfOk, Result}
 use Rattle.std.specs.Bool.{⊤}
-use Rattle.std.specs.Result.{result_map_both}
+use Rattle.refusals.specs.Results.{result_map, result_map_err}
 use Rattle.ledger.specs.declared.Kind.TheVariants.{Reader}
 use Rattle.ledger.specs.declared.Fault.{Fault}
 use Rattle.ledger.specs.declared.Verdict.{Verdict}
 use Rattle.ledger.specs.declared.Verdict.TheVariants.{Restart}
-use Rattle.versions.specs.Meaning.{Store}
-use Rattle.validation.specs.Meaning.{Stamps}
+use Rattle.versions.specs.Stores.{Store}
+use Rattle.validation.specs.Stamps.{Stamps}
 use Rattle.engine.specs.declared.engine.Engine.{Engine}
 use Rattle.answer_lines.specs.declared.LineFault.{LineFault}
 use Rattle.answer_lines.specs.declared.LineFault.TheVariants.{Malformed, Engine as InEngine}
@@ -62,9 +62,9 @@ acted (Correction k x) w = do r ← corrected k x; pure (r, w)
 acted (ToRecalculate k n x) w = recalculated k n x w
 acted Finish w = do r ← work_finished w; pure (r, None)
 acted ToList w = do r ← listed; pure (r, w)
-acted Report w = do h ← begin Reader; pure (result_map_both SaidReport (λ e. e) h, w)
+acted Report w = do h ← begin Reader; pure (result_map SaidReport h, w)
 acted (Show h) w = do r ← report_shown h; pure (r, w)
-acted (Close h) w = do end ← commit h; pure (result_map_both SaidEnded (λ e. e) end, w)
+acted (Close h) w = do end ← commit h; pure (result_map SaidEnded end, w)
 acted CleanUp w = do n ← reclaim; pure (Ok (Removed n), w)
 
 -- what the line of this number does where w is open: what its event does, a fault of the engine carried up whole; a line that tells of none is refused
@@ -72,7 +72,7 @@ abbrev pub answered : ℕ → Option Recalculation → Option Event → Procedur
 answered number w None = pure (Err (Malformed number), w)
 answered number w (Some e) = do
   r ← acted e w
-  pure (result_map_both (λ s. s) InEngine r.0, r.1)
+  pure (result_map_err InEngine r.0, r.1)
 
 -- what stays open behind an event, where w was open and this was said: a recalculation that was worked out, none once one is finished, and else w
 abbrev pub pending_after : Event → Option Recalculation → Option Said → Option Recalculation

@@ -83,5 +83,5 @@ event_of (Some ToList) args = plain ListNow args
 event_of (Some ToReport) args = plain Report args
 event_of (Some ToClean) args = plain CleanUp args
 
-abbrev pub event : List ℕ → Option Event
-event line = event_of (verb (word line)) (behind line)
+abbrev pub event_in : List ℕ → Option Event
+event_in line = event_of (verb (word line)) (behind line)

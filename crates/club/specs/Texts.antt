@@ -1,41 +1,35 @@
 -- The words for what an event did.
-use Rattle.std.specs.Prelude.{ℕ, List, ◌++◌, Ok, Err, Some, Option, codes, decimal, Result}
+use Rattle.std.specs.Prelude.{ℕ, List, ◌++◌, Ok, Err, codes, decimal, Result}
 use Rattle.refusals.specs.declared.Report.{Report}
-use Rattle.refusals.specs.Reports.{report_text}
 use Rattle.ledger.specs.Faults.{fault_report}
 use Rattle.ledger.specs.declared.Fault.{Fault}
 use Rattle.ledger.specs.declared.Verdict.{Verdict}
 use Rattle.ledger.specs.declared.Verdict.TheVariants.{Closed, Restart, Spent, Full, Committed}
 use Rattle.answer_lines.specs.declared.LineFault.{LineFault}
-use Rattle.answer_lines.specs.Lines.{line_report, spaced}
+use Rattle.answer_lines.specs.Lines.{line_report, refused_text, spaced}
 use Rattle.club.specs.declared.said.Recalculation.{Recalculation}
 use Rattle.club.specs.declared.said.Redone.{Redone}
 use Rattle.club.specs.declared.said.Said.{Said}
 use Rattle.club.specs.declared.said.Said.TheVariants.{Card, Correction, Recalculation as Opened, AlreadyOpen, NoneOpen, Ended, Restarted, Values, Report as ReportOpened, Removed}
 
--- what a refusal reports, behind "refused"
-abbrev pub refused_text : Report → List ℕ
-refused_text r = codes "refused " ++ report_text r
+-- what is told of an answer, or of the text of a refusal
+abbrev pub answer_or_refusal : {T E X : Type 0} → (T → X) → (List ℕ → X) → (E → Report) → Result T E → X
+answer_or_refusal answer refusal report (Ok x) = answer x
+answer_or_refusal answer refusal report (Err e) = refusal (refused_text (report e))
 
--- an answer's own words, or what the fault reports
+-- an answer's own words, or the refusal
 abbrev pub text_or_refused : {T E : Type 0} → (T → List ℕ) → (E → Report) → Result T E → List ℕ
-text_or_refused text report (Ok x) = text x
-text_or_refused text report (Err e) = refused_text (report e)
+text_or_refused text report r = answer_or_refusal text (λ t. t) report r
 
--- the same of an answer that may have no words
-abbrev pub spoken_text : {T E : Type 0} → (T → Option (List ℕ)) → (E → Report) → Result T E → Option (List ℕ)
-spoken_text answer report (Ok x) = answer x
-spoken_text answer report (Err e) = Some (refused_text (report e))
-
-abbrev pub verdict_text : Verdict → List ℕ
-verdict_text Closed = codes "closed"
-verdict_text (Restart k s) = codes "restarted by the commit at tick " ++ (decimal s ++ (codes " on key " ++ decimal k))
-verdict_text Spent = codes "spent: no tick is left"
-verdict_text (Full w f) = codes "full: " ++ (decimal w ++ (codes " to write, " ++ (decimal f ++ codes " free")))
-verdict_text (Committed t) = codes "committed at tick " ++ decimal t
+abbrev pub ending_text : Verdict → List ℕ
+ending_text Closed = codes "closed"
+ending_text (Restart k s) = codes "restarted by the commit at tick " ++ (decimal s ++ (codes " on key " ++ decimal k))
+ending_text Spent = codes "spent: no tick is left"
+ending_text (Full w f) = codes "full: " ++ (decimal w ++ (codes " to write, " ++ (decimal f ++ codes " free")))
+ending_text (Committed t) = codes "committed at tick " ++ decimal t
 
 abbrev pub end_text : Result Verdict Fault → List ℕ
-end_text r = text_or_refused verdict_text fault_report r
+end_text r = text_or_refused ending_text fault_report r
 
 abbrev pub recalculation_text : Recalculation → List ℕ
 recalculation_text w =
@@ -52,8 +46,8 @@ said_text (Correction k x was r) =
 said_text (Opened w) = recalculation_text w
 said_text AlreadyOpen = codes "a recalculation is open already"
 said_text NoneOpen = codes "no recalculation is open"
-said_text (Ended v) = verdict_text v
-said_text (Restarted k s r) = verdict_text (Restart k s) ++ (codes "; again: " ++ text_or_refused redone_text fault_report r)
+said_text (Ended v) = ending_text v
+said_text (Restarted k s r) = ending_text (Restart k s) ++ (codes "; again: " ++ text_or_refused redone_text fault_report r)
 said_text (Values xs) = codes "values" ++ spaced xs
 said_text (ReportOpened h) = codes "report " ++ (decimal h ++ codes " opened")
 said_text (Removed n) = decimal n ++ codes " versions removed"

@@ -1,6 +1,6 @@
 -- The transactions that a club's events are made of, as procedures.
 use Rattle.std.specs.Prelude.{ℕ, List, [], ◌∷◌, replicate, slice_index, take, Ok, Result}
-use Rattle.std.specs.Result.{result_map_both}
+use Rattle.refusals.specs.Results.{result_map}
 use Rattle.ledger.specs.declared.Kind.TheVariants.{Reader, Updater}
 use Rattle.ledger.specs.declared.Fault.{Fault}
 use Rattle.ledger.specs.declared.Verdict.{Verdict}
@@ -28,13 +28,13 @@ corrected k x = do
     pure (Ok (Correction k x (slice_index old.1 0) end))
 
 -- what a buffer for all the club's keys holds at first
-abbrev pub blank : List ℕ
-blank = replicate KEYS 0
+abbrev pub no_values : List ℕ
+no_values = replicate KEYS 0
 
 -- Begin with a read of n rounds from k on, and work out the index that is to be written to x.
 abbrev pub worked_out : ℕ → ℕ → ℕ → Procedure (Result Recalculation Fault)
 worked_out k n x = do
-  rounds ← begin_with_read k n blank
+  rounds ← begin_with_read k n no_values
   and_then rounds.0 λ h. pure (Ok (record { handle = h; first = k; count = n; index = x; value = index (take n rounds.1) }))
 
 -- Work a recalculation out again, and finish it.
@@ -50,12 +50,12 @@ abbrev pub listed : Procedure (Result Said Fault)
 listed = do
   begun ← begin Reader
   and_then begun λ h. do
-    seen ← read h 0 KEYS blank
+    seen ← read h 0 KEYS no_values
     _ ← commit h
-    pure (result_map_both (λ _. Values seen.1) (λ e. e) seen.0)
+    pure (result_map (λ _. Values seen.1) seen.0)
 
 -- Read all the club's keys under h.
 abbrev pub report_shown : ℕ → Procedure (Result Said Fault)
 report_shown h = do
-  seen ← read h 0 KEYS blank
-  pure (result_map_both (λ _. Values seen.1) (λ e. e) seen.0)
+  seen ← read h 0 KEYS no_values
+  pure (result_map (λ _. Values seen.1) seen.0)

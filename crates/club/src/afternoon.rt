@@ -4,8 +4,8 @@ ghost use Rattle.std.specs.Io.Buffered.{reader_buffer, reader_remaining, writer_
 ghost use Rattle.std.specs.Io.KnownBytes.{Keeps};
 ghost use Rattle.std.specs.List.{list_any};
 ghost use Rattle.std.specs.Str.Lines.{lines};
-ghost use Rattle.club.specs.Lines.{event, text_of};
-ghost use Rattle.club.specs.Afternoons.{AnswersLines, AnswersOnBoth, TellsAfternoon};
+ghost use Rattle.club.specs.Lines.{event_in, text_of};
+ghost use Rattle.club.specs.Afternoons.{AnswersLines, AnswersOnBoth, AnswersAfternoon};
 
 use crate::desk::Desk;
 use crate::said::Spoken;
@@ -32,18 +32,18 @@ pub fn run<S: VersionStore, V: Validator, T: VersionStore, U: Validator, R: Read
     output: &mut BufWriter<W>,
 ) -> io::Result<()>
     // Where it is known which bytes come, and the numbers of the lines suffice.
-    ensures told { OnOk result (IfSome (reader_remaining R.remaining input.old)
-        (λ text. length text < 2 ^ 63 → TellsAfternoon S.meaning V.meaning T.meaning U.meaning
+    ensures known { OnOk result (IfSome (reader_remaining R.remaining input.old)
+        (λ text. length text < 2 ^ 63 → AnswersAfternoon S.meaning V.meaning T.meaning U.meaning
         one.old one.new other.old other.new (lines text)
         (writer_contents W.contents output.old) (writer_contents W.contents output.new))) }
 
     // Of any reader: the lines that it gave.
-    ensures taken { OnOk result ((ls : List (List ℕ)) × TellsAfternoon
+    ensures taken { OnOk result ((ls : List (List ℕ)) × AnswersAfternoon
         S.meaning V.meaning T.meaning U.meaning one.old one.new other.old other.new ls
         (writer_contents W.contents output.old) (writer_contents W.contents output.new)) }
     ensures flushed { OnOk result (writer_buffer output.new ≡ []) }
 {
-    let Counts { lines, apart } = answer_lines(alloc, one, other, input, output)?;
+    let Counts { lines, apart } = answer_each(alloc, one, other, input, output)?;
     writeln!(
         output,
         "{lines} lines on two stores and two validators, {apart} told apart"
@@ -52,7 +52,7 @@ pub fn run<S: VersionStore, V: Validator, T: VersionStore, U: Validator, R: Read
 }
 
 /// Answers each line, and counts them.
-fn answer_lines<
+fn answer_each<
     S: VersionStore,
     V: Validator,
     T: VersionStore,
@@ -129,7 +129,7 @@ fn answer_line<S: VersionStore, V: Validator, T: VersionStore, U: Validator, W: 
     output: &mut W,
 ) -> io::Result<u64>
     ensures { IfOk result (AnswersOnBoth S.meaning V.meaning T.meaning U.meaning
-        one.old one.new other.old other.new number (event line.now)
+        one.old one.new other.old other.new number (event_in line.now)
         (W.contents output.old) (W.contents output.new)) }
 {
     let said = Spoken(one.answer(number, line));

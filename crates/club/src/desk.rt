@@ -1,7 +1,7 @@
 //! What each event of an afternoon does.
 ghost use Rattle.std.specs.Prelude.{◌≡◌, None, IfSome, IfNone};
 ghost use Rattle.std.specs.Result.{result_ok};
-ghost use Rattle.club.specs.Lines.{event as told_by};
+ghost use Rattle.club.specs.Lines.{event_in};
 ghost use Rattle.procedures.specs.Procedures.{Performs};
 ghost use Rattle.club.specs.Events.{Shows, engine_of, pending_of, pending_after, new_desk, acted, answered, recalculated};
 
@@ -36,12 +36,12 @@ impl<S: VersionStore, V: Validator> Desk<S, V> {
     /// Does what a line tells of; a malformed one is refused with its number.
     pub fn answer(&mut self, number: u64, line: &[u8]) -> Result<Said, LineFault>
         ensures performs { Performs S.meaning V.meaning (engine_of self.old) (engine_of self.new)
-            (answered number (pending_of self.old) (told_by line.now))
+            (answered number (pending_of self.old) (event_in line.now))
             (result, pending_of self.new) }
-        ensures pending { IfSome (told_by line.now) (λ event.
+        ensures pending { IfSome (event_in line.now) (λ event.
             pending_of self.new ≡ pending_after event (pending_of self.old) (result_ok result)) }
-        ensures malformed { IfNone (told_by line.now) (self.new ≡ self.old) }
-        ensures shows { IfSome (told_by line.now) (λ event.
+        ensures malformed { IfNone (event_in line.now) (self.new ≡ self.old) }
+        ensures shows { IfSome (event_in line.now) (λ event.
             Shows S.meaning V.meaning (engine_of self.old) event result) }
     {
         let event = parse(line).ok_or(LineFault::Malformed { number })?;
@@ -70,10 +70,14 @@ impl<S: VersionStore, V: Validator> Desk<S, V> {
             } => self.recalculate(first, count, index),
             Event::Finish => self.finish(),
             Event::List => list(engine),
-            Event::Report => engine.begin(Kind::Reader).map(Said::Report),
-            Event::Show(report) => show(engine, report),
-            Event::Close(report) => engine.commit(report).map(Said::Ended),
-            Event::CleanUp => Ok(Said::Removed(engine.reclaim())),
+            Event::Report => engine
+                .begin(Kind::Reader)
+                .map(|handle| Said::Report { handle }),
+            Event::Show { report } => show(engine, report),
+            Event::Close { report } => engine.commit(report).map(Said::Ended),
+            Event::CleanUp => Ok(Said::Removed {
+                count: engine.reclaim(),
+            }),
         }
     }
 

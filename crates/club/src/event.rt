@@ -14,9 +14,9 @@ pub enum Event {
     /// A report is opened, which shows the club as it is now for as long as it is open.
     Report,
     /// The club list that an open report shows.
-    Show(u32),
+    Show { report: u32 },
     /// A report is closed.
-    Close(u32),
+    Close { report: u32 },
     /// Versions that nobody can see any more are removed.
     CleanUp,
 }

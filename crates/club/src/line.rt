@@ -1,5 +1,5 @@
-ghost use Rattle.std.specs.Prelude.{◌≡◌, ℕ};
-ghost use Rattle.club.specs.Lines.{word, behind, number, short, handle, card, rounds, verb, plain, event};
+ghost use Rattle.std.specs.Prelude.{◌≡◌};
+ghost use Rattle.club.specs.Lines.{word, behind, number, short, handle, card, rounds, verb, plain, event_in};
 
 use crate::event::Event;
 
@@ -113,7 +113,7 @@ fn parse_plain(event: Event, args: &[u8]) -> Option<Event>
 /// The event that a line tells of; none where the line is malformed.
 /// A line is bytes and not a `&str`, since not every line is UTF-8.
 pub fn parse(line: &[u8]) -> Option<Event>
-    ensures { result ≡ event line.now }
+    ensures { result ≡ event_in line.now }
 {
     let (word, args) = split_word(line);
     match parse_verb(word)? {
@@ -127,8 +127,8 @@ pub fn parse(line: &[u8]) -> Option<Event>
                 index,
             })
         }
-        Verb::Show => parse_handle(args).map(Event::Show),
-        Verb::Close => parse_handle(args).map(Event::Close),
+        Verb::Show => parse_handle(args).map(|report| Event::Show { report }),
+        Verb::Close => parse_handle(args).map(|report| Event::Close { report }),
         Verb::Finish => parse_plain(Event::Finish, args),
         Verb::List => parse_plain(Event::List, args),
         Verb::Report => parse_plain(Event::Report, args),

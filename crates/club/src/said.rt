@@ -1,6 +1,6 @@
 //! What an event did, as a value that two engines' answers are compared by, and its words.
 ghost use Rattle.std.specs.Prelude.{Some};
-ghost use Rattle.club.specs.Texts.{spoken_text, verdict_text, recalculation_text, redone_text, said_text};
+ghost use Rattle.club.specs.Texts.{answer_or_refusal, ending_text, recalculation_text, redone_text, said_text};
 
 use answer_lines::Spaced;
 use ledger::{Fault, Verdict};
@@ -53,8 +53,12 @@ pub enum Said {
         again: Result<Redone, Fault>,
     },
     Values([u64; KEYS as usize]),
-    Report(u32),
-    Removed(u16),
+    Report {
+        handle: u32,
+    },
+    Removed {
+        count: u16,
+    },
 }
 
 /// An answer, or why it was refused, as it is printed.
@@ -62,7 +66,7 @@ pub enum Said {
 pub struct Spoken<T, E>(pub Result<T, E>);
 
 impl<T: fmt::Display, E: Refusal> fmt::Display for Spoken<T, E> {
-    ghost output = { λ s. spoken_text T.output E.reported s.0 };
+    ghost output = { λ s. answer_or_refusal T.output Some E.reported s.0 };
 
     fn fmt<W: fmt::Write>(&self, f: &mut fmt::Formatter<W>) -> fmt::Result {
         match &self.0 {
@@ -77,7 +81,7 @@ impl<T: fmt::Display, E: Refusal> fmt::Display for Spoken<T, E> {
 struct Ended(Verdict);
 
 impl fmt::Display for Ended {
-    ghost output = { λ e. Some (verdict_text e.0) };
+    ghost output = { λ e. Some (ending_text e.0) };
 
     fn fmt<W: fmt::Write>(&self, f: &mut fmt::Formatter<W>) -> fmt::Result {
         match self.0 {
@@ -146,8 +150,8 @@ impl fmt::Display for Said {
                 write!(f, "{restart}; again: {}", Spoken(*again))
             }
             Said::Values(values) => write!(f, "values{}", Spaced { values }),
-            Said::Report(handle) => write!(f, "report {handle} opened"),
-            Said::Removed(count) => write!(f, "{count} versions removed"),
+            Said::Report { handle } => write!(f, "report {handle} opened"),
+            Said::Removed { count } => write!(f, "{count} versions removed"),
         }
     }
 }

@@ -22,10 +22,10 @@ use validation::table::StampTable;
 use versions::log::LogStore;
 use versions::store::Version;
 
-// The club's table has room for nine versions, and ticks for a short afternoon.
+// Nine cells for the club's versions, and ticks for a short afternoon.
 const CELLS: usize = 9;
 
-const LAST_TICK: u32 = 51;
+const DAY_LAST_TICK: u32 = 51;
 
 /// Answers the lines of an afternoon: on the log store with the recent list, and beside it on the chain store
 /// with the stamp table.
@@ -56,8 +56,8 @@ fn answer_day<R: Read, W: Write + Drop>(
     let recent = RecentList::make(KEYS, &mut entries);
     let chain = ChainStore::make(KEYS, &mut heads, &mut cells);
     let table = StampTable::make(KEYS, 1, &mut stamps);
-    let first = Engine::make(LAST_TICK, log, recent);
-    let second = Engine::make(LAST_TICK, chain, table);
+    let first = Engine::make(DAY_LAST_TICK, log, recent);
+    let second = Engine::make(DAY_LAST_TICK, chain, table);
     let mut one = Desk::new(first);
     let mut other = Desk::new(second);
     run(alloc, &mut one, &mut other, input, output)

@@ -6,8 +6,8 @@ use Rattle.std.proofs.lemmas.List.FromFn.{length-map-range_with_len}
 use Rattle.std.proofs.lemmas.Bool.{cond_both}
 use Rattle.ledger.specs.Ledger.{Transaction}
 use Rattle.ledger.specs.Calls.{joins, joined}
-use Rattle.versions.specs.Meaning.{Store}
-use Rattle.engine.specs.Shows.{shown}
+use Rattle.versions.specs.Stores.{Store}
+use Rattle.engine.specs.Reads.{read_value}
 
 keys_push : (k n : ℕ) → range_with_len k (suc n) ≡ range_with_len k n ++ ((k + n) ∷ [])
 keys_push k zero = ap (λ x. x ∷ []) (omega arith)
@@ -27,8 +27,8 @@ fill_more f k i x old out lt e is =
     more = omega arith
 
 -- a range that joins the read list changes nothing that is read
-pub shown_joined : (s : Store) (u : Transaction) (k n j : ℕ) → shown s (joined u k n) j ≡ shown s u j
-shown_joined s u k n j = cond_both (joins u k n) _ u (λ x. shown s x j ≡ shown s u j) (λ _. refl) (λ _. refl)
+pub read_value_joined : (s : Store) (u : Transaction) (k n j : ℕ) → read_value s (joined u k n) j ≡ read_value s u j
+read_value_joined s u k n j = cond_both (joins u n) _ u (λ x. read_value s x j ≡ read_value s u j) (λ _. refl) (λ _. refl)
 
 pub keys_below : (k n m : ℕ) → k + n ≤ m → AllByRecursion (λ j. j < m) (range_with_len k n)
 keys_below k zero m le = tt

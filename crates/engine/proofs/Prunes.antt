@@ -3,22 +3,18 @@ use Rattle.std.proofs.Common.{◌≡◌, ℕ, ◌+◌, ◌<◌, ◌≤◌, max, 
 use Rattle.std.specs.List.{AllByRecursion}
 use Rattle.std.proofs.ByRecursion.{All-weaker}
 use Rattle.std.proofs.lemmas.Bool.{eqb-true, eqb-false, eq-eqb, ne_eqb, ltb-true, ltb-false, lt-ltb, le-ltb, and_left, and_right, both_ways}
-use Rattle.versions.specs.Meaning.{Store, Revision, kept, outdated, survivors, pruned, pruned_count, sum_below}
+use Rattle.versions.specs.Stores.{Store, Revision, kept, outdated, survivors, pruned, pruned_count, sum_below}
 use Rattle.versions.proofs.Lists.{any_none, sum_none, sum_same, sum_one}
 use Rattle.versions.proofs.Meanings.{outdated_and_kept}
-use Rattle.validation.specs.Meaning.{Stamps, trimmed}
-use Rattle.ledger.specs.Ledger.{Version, Ledger, outlook, trim_tick, unseen, present_count, dead_count, shortage}
+use Rattle.validation.specs.Stamps.{Stamps, trimmed}
+use Rattle.ledger.specs.Ledger.{Version, Ledger, outlook, trim_tick, is_hidden_by, unseen, present_count, dead_count, shortage}
 use Rattle.ledger.specs.Calls.{granule_stamp, reclaimed, shortage_in}
-use Rattle.ledger.specs.Orderly.{Strict, Orderly}
+use Rattle.ledger.specs.Orderly.{AreStrictPerKey, IsOrderly}
 use Rattle.ledger.proofs.Presence.{granule_same}
 use Rattle.ledger.proofs.Deaths.{clear, bare_reclaimed, live_and_dead, present_reclaimed}
 use Rattle.engine.specs.Fits.{as_revision, revisions_of, kept_stamp, Holds}
 
 -- Which versions are dead
-
--- w is of the key of v, newer, and stamped below h
-abbrev kills : ℕ → Version → Version → Bool
-kills h v w = eqb w.key v.key && (ltb v.stamp w.stamp && ltb w.stamp h)
 
 none_later : (h : ℕ) (v : Version) (vs : List Version) → AllByRecursion (λ w. w.key ≡ v.key → w.stamp ≤ v.stamp) vs → unseen h vs v ≡ false
 none_later h v [] a = refl
@@ -42,20 +38,20 @@ revisions_none_later h k r vs a =
     any_none (λ w. ltb r.stamp w.stamp && ltb w.stamp h) (revisions_of k vs) (All-weaker _ (λ w. (ltb r.stamp w.stamp && ltb w.stamp h) ≡ false) (λ w le. and_left _ _ (le-ltb r.stamp w.stamp le)) (revisions_of k vs) (revisions_below k r.stamp vs a))
 
 -- each removed version of the key is dead
-abbrev Removed : ℕ → ℕ → List Version → List Version → Type 0
-Removed k h all vs = AllByRecursion (λ v. v.key ≡ k → v.present ≡ false → unseen h all v ≡ true) vs
+abbrev RemovedAreDead : ℕ → ℕ → List Version → List Version → Type 0
+RemovedAreDead k h all vs = AllByRecursion (λ v. v.key ≡ k → v.present ≡ false → unseen h all v ≡ true) vs
 
 -- the version is dead in the ledger as in a key's list
-abbrev Agrees : ℕ → List Version → List Revision → Version → Type 0
-Agrees h vs ps v = unseen h vs v ≡ outdated h ps (as_revision v)
+abbrev IsDeadAlike : ℕ → List Version → List Revision → Version → Type 0
+IsDeadAlike h vs ps v = unseen h vs v ≡ outdated h ps (as_revision v)
 
 -- a version of the key that is dead at all is dead by one that is present: by the newest below h
-same_dead : (k h : ℕ) (vs : List Version) → Strict vs → Removed k h vs vs → (v : Version) → v.key ≡ k → Agrees h vs (revisions_of k vs) v
+same_dead : (k h : ℕ) (vs : List Version) → AreStrictPerKey vs → RemovedAreDead k h vs vs → (v : Version) → v.key ≡ k → IsDeadAlike h vs (revisions_of k vs) v
 same_dead k h [] strict removed v e = refl
 same_dead k h (x ∷ xs) strict removed v e = go (eqb x.key k) (ltb x.stamp h) x.present refl refl refl (λ r. same_dead k h xs strict.1 r v e)
   where
-    -- where x kills nothing of the key
-    skip : ((u : Version) → u.key ≡ k → kills h u x ≡ false) → (Removed k h xs xs → Agrees h xs (revisions_of k xs) v) → Agrees h (x ∷ xs) (revisions_of k xs) v
+    -- where x hides nothing of the key
+    skip : ((u : Version) → u.key ≡ k → is_hidden_by h u x ≡ false) → (RemovedAreDead k h xs xs → IsDeadAlike h xs (revisions_of k xs) v) → IsDeadAlike h (x ∷ xs) (revisions_of k xs) v
     skip idle later =
         let same : (u : Version) → u.key ≡ k → unseen h (x ∷ xs) u ≡ unseen h xs u = λ u q. ap (λ b. b || unseen h xs u) (idle u q) in
         same v e ∙ later (All-weaker _ _ (λ u r q p. sym (same u q) ∙ r q p) xs removed.1)
@@ -63,18 +59,18 @@ same_dead k h (x ∷ xs) strict removed v e = go (eqb x.key k) (ltb x.stamp h) x
     -- x is the newest of the key below h
     alive : x.key ≡ k → x.present ≡ false → ⊥
     alive q p =
-        let self : kills h x x ≡ false = and_right (eqb x.key x.key) (ltb x.stamp x.stamp && ltb x.stamp h) (and_left (ltb x.stamp x.stamp) (ltb x.stamp h) (le-ltb x.stamp x.stamp (omega arith))) in
+        let self : is_hidden_by h x x ≡ false = and_right (eqb x.key x.key) (ltb x.stamp x.stamp && ltb x.stamp h) (and_left (ltb x.stamp x.stamp) (ltb x.stamp h) (le-ltb x.stamp x.stamp (omega arith))) in
         let rest = none_later h x xs (All-weaker _ _ (λ w lt same. let l = lt same in omega arith) xs strict.0) in
         both_ways (unseen h (x ∷ xs) x) (rw self rest) (removed.0 q p)
 
-    first : (b : Bool) → ltb v.stamp x.stamp ≡ b → x.key ≡ k → ltb x.stamp h ≡ true → Agrees h (x ∷ xs) (as_revision x ∷ revisions_of k xs) v
+    first : (b : Bool) → ltb v.stamp x.stamp ≡ b → x.key ≡ k → ltb x.stamp h ≡ true → IsDeadAlike h (x ∷ xs) (as_revision x ∷ revisions_of k xs) v
     first true d q below = rw (eq-eqb x.key v.key (q ∙ sym e), d, below)
     first false d q below =
         let le = ltb-false _ _ d in
         let older : AllByRecursion (λ w. w.key ≡ k → w.stamp ≤ v.stamp) xs = All-weaker _ _ (λ w lt same. let l = lt (same ∙ sym q) in omega arith) xs strict.0 in
         rw (eq-eqb x.key v.key (q ∙ sym e), d, none_later h v xs (All-weaker _ _ (λ w l same. l (same ∙ e)) xs older), revisions_none_later h k (as_revision v) xs older)
 
-    go : (a b p : Bool) → eqb x.key k ≡ a → ltb x.stamp h ≡ b → x.present ≡ p → (Removed k h xs xs → Agrees h xs (revisions_of k xs) v) → Agrees h (x ∷ xs) (cond (a && p) (as_revision x ∷ revisions_of k xs) (revisions_of k xs)) v
+    go : (a b p : Bool) → eqb x.key k ≡ a → ltb x.stamp h ≡ b → x.present ≡ p → (RemovedAreDead k h xs xs → IsDeadAlike h xs (revisions_of k xs) v) → IsDeadAlike h (x ∷ xs) (cond (a && p) (as_revision x ∷ revisions_of k xs) (revisions_of k xs)) v
     go false b p q below is later = skip (λ u same. and_left (eqb x.key u.key) (ltb u.stamp x.stamp && ltb x.stamp h) (ne_eqb x.key u.key (λ z. eqb-false x.key k q (z ∙ same)))) later
     go true true true q below is later = first (ltb v.stamp x.stamp) refl (eqb-true x.key k q) below
     go true true false q below is later = absurd (alive (eqb-true x.key k q) is)
@@ -84,7 +80,7 @@ same_dead k h (x ∷ xs) strict removed v e = go (eqb x.key k) (ltb x.stamp h) x
     go true false false q below is later = skip (λ u same. and_right (eqb x.key u.key) (ltb u.stamp x.stamp && ltb x.stamp h) (and_right (ltb u.stamp x.stamp) (ltb x.stamp h) below)) later
 
 -- what a prune leaves of a key's list is the list of what a reclaim leaves
-revisions_left : (k h : ℕ) (all : List Version) (ps : List Revision) (vs : List Version) → AllByRecursion (λ v. v.key ≡ k → Agrees h all ps v) vs → filter (λ p. not (outdated h ps p)) (revisions_of k vs) ≡ revisions_of k (map (clear h all) vs)
+revisions_left : (k h : ℕ) (all : List Version) (ps : List Revision) (vs : List Version) → AllByRecursion (λ v. v.key ≡ k → IsDeadAlike h all ps v) vs → filter (λ p. not (outdated h ps p)) (revisions_of k vs) ≡ revisions_of k (map (clear h all) vs)
 revisions_left k h all ps [] a = refl
 revisions_left k h all ps (v ∷ vs) a = go (eqb v.key k) v.present refl (revisions_left k h all ps vs a.1)
   where
@@ -93,18 +89,18 @@ revisions_left k h all ps (v ∷ vs) a = go (eqb v.key k) v.present refl (revisi
     go true false q ih = ih
     go false p q ih = ih
 
-pub revisions_reclaimed : (k h : ℕ) (vs : List Version) → Strict vs → AllByRecursion (λ v. v.present ≡ false → unseen h vs v ≡ true) vs → survivors h (revisions_of k vs) ≡ revisions_of k (map (clear h vs) vs)
+revisions_reclaimed : (k h : ℕ) (vs : List Version) → AreStrictPerKey vs → AllByRecursion (λ v. v.present ≡ false → unseen h vs v ≡ true) vs → survivors h (revisions_of k vs) ≡ revisions_of k (map (clear h vs) vs)
 revisions_reclaimed k h vs strict removed =
     revisions_left k h vs (revisions_of k vs) vs (each vs (same_dead k h vs strict (All-weaker _ _ (λ v r e. r) vs removed)))
   where
-    each : (us : List Version) → ((v : Version) → v.key ≡ k → Agrees h vs (revisions_of k vs) v) → AllByRecursion (λ v. v.key ≡ k → Agrees h vs (revisions_of k vs) v) us
+    each : (us : List Version) → ((v : Version) → v.key ≡ k → IsDeadAlike h vs (revisions_of k vs) v) → AllByRecursion (λ v. v.key ≡ k → IsDeadAlike h vs (revisions_of k vs) v) us
     each [] f = tt
     each (u ∷ us) f = (f u, each us f)
 
 -- Counts
 
 -- the lists of all keys together are as long as there are versions present
-pub revisions_count : (n : ℕ) (vs : List Version) → AllByRecursion (λ v. v.key < n) vs → sum_below n (λ k. length (revisions_of k vs)) ≡ length (filter (λ v. v.present) vs)
+revisions_count : (n : ℕ) (vs : List Version) → AllByRecursion (λ v. v.key < n) vs → sum_below n (λ k. length (revisions_of k vs)) ≡ length (filter (λ v. v.present) vs)
 revisions_count n [] a = sum_none n
 revisions_count n (v ∷ vs) a = go v.present (revisions_count n vs a.1)
   where
@@ -153,12 +149,12 @@ trims_join s t u = go (ltb s t) (ltb s u) refl refl
 
 -- The whole
 
-module _ (l : Ledger) (s : Store) (v : Stamps) (order : Orderly l) (has : Holds l s v) where
+module _ (l : Ledger) (s : Store) (v : Stamps) (order : IsOrderly l) (has : Holds l s v) where
   pub holds_reclaimed : Holds (reclaimed l) (pruned s (outlook l)) (trimmed v (trim_tick l))
   holds_reclaimed = record {
     same_keys = has.same_keys;
     revisions = λ k lt. ap (survivors (outlook l)) (has.revisions k lt) ∙ revisions_reclaimed k (outlook l) l.versions order.dated.strict order.safe.removed;
-    stamps = λ k lt. ap (kept_stamp (trim_tick l)) (has.stamps k lt) ∙ trims_join (granule_stamp v.granule k l.versions) l.trimmed (trim_tick l) ∙ ap (kept_stamp (max l.trimmed (trim_tick l))) (sym (granule_same (reclaimed l).versions l.versions (bare_reclaimed l) v.granule k));
+    stamps = λ k lt. ap (kept_stamp (trim_tick l)) (has.stamps k lt) ∙ trims_join (granule_stamp v.granule k l.versions) l.trimmed_at (trim_tick l) ∙ ap (kept_stamp (max l.trimmed_at (trim_tick l))) (sym (granule_same (reclaimed l).versions l.versions (bare_reclaimed l) v.granule k));
   }
 
   -- as many versions are dead

@@ -7,16 +7,16 @@ use Rattle.ledger.specs.declared.Kind.TheVariants.{Reader, Updater}
 use Rattle.ledger.specs.declared.Call.TheVariants.{Reclaim}
 use Rattle.ledger.specs.declared.Done.TheVariants.{Reclaimed}
 use Rattle.ledger.specs.Ledger.{Version, Ledger, Shortage, least_start, outlook, trim_tick, dead, shortage}
-use Rattle.ledger.specs.Calls.{reclaimed, shortage_in, with_room}
+use Rattle.ledger.specs.Calls.{reclaimed, shortage_in, reclaimed_if_short}
 use Rattle.ledger.specs.Reach.{next}
 use Rattle.ledger.proofs.Orders.{dated, orderly, idle}
-use Rattle.versions.specs.Meaning.{Store, kept, pruned, pruned_count}
-use Rattle.validation.specs.Meaning.{Stamps, trimmed}
+use Rattle.versions.specs.Stores.{Store, kept, pruned, pruned_count}
+use Rattle.validation.specs.Stamps.{Stamps, trimmed}
 use Rattle.transaction_table.specs.declared.table.TransactionTable.{TransactionTable}
 use Rattle.transaction_table.specs.View.{active_of}
-use Rattle.transaction_table.specs.Places.{of_kind}
+use Rattle.transaction_table.specs.Slots.{is_of_kind}
 use Rattle.engine.specs.Fits.{Fits}
-use Rattle.engine.specs.Steps.{Steps}
+use Rattle.engine.specs.Steps.{FollowsStep}
 use Rattle.transaction_table.proofs.Shuffles.{shuffle_least}
 use Rattle.engine.proofs.Fittings.{last_is, limits_are}
 use Rattle.engine.proofs.Prunes.{holds_reclaimed, dead_is, shortage_is}
@@ -24,13 +24,13 @@ use Rattle.engine.proofs.Prunes.{holds_reclaimed, dead_is, shortage_is}
 -- Reclaim
 
 -- the least start of the records is that of the ledger's transactions
-least_is : {l : Ledger} {t : TransactionTable} {s : Store} {v : Stamps} → Fits l t s v → (kind : Kind) → least_start (of_kind kind) (min (t.clock + 1) (2 ^ 32 - 1)) (active_of t.records) ≡ least_start (of_kind kind) (l.clock + 1) l.active
+least_is : {l : Ledger} {t : TransactionTable} {s : Store} {v : Stamps} → Fits l t s v → (kind : Kind) → least_start (is_of_kind kind) (min (t.clock + 1) (2 ^ 32 - 1)) (active_of t.records) ≡ least_start (is_of_kind kind) (l.clock + 1) l.active
 least_is {l = l} {t = t} f kind =
     let next-tick : min (t.clock + 1) (2 ^ 32 - 1) ≡ l.clock + 1 = omega (arith, f.clock, f.ticks, last_is f, (dated f.reached).ticks) in
-    ap (λ n. least_start (of_kind kind) n (active_of t.records)) next-tick ∙ sym (shuffle_least (of_kind kind) (l.clock + 1) f.active)
+    ap (λ n. least_start (is_of_kind kind) n (active_of t.records)) next-tick ∙ sym (shuffle_least (is_of_kind kind) (l.clock + 1) f.active)
 
 -- without a tick there is nothing to reclaim
-pub reclaim_idle : {l : Ledger} {t : TransactionTable} {s : Store} {v : Stamps} → Fits l t s v → t.last ≡ 0 → (b : List ℕ) → Steps l Reclaim b (Ok (Reclaimed 0)) b t s v
+pub reclaim_idle : {l : Ledger} {t : TransactionTable} {s : Store} {v : Stamps} → Fits l t s v → t.last ≡ 0 → (b : List ℕ) → FollowsStep l Reclaim b (Ok (Reclaimed 0)) b t s v
 reclaim_idle {l = l} {t = t} {s = s} {v = v} f none b = record {
   answer = ap (λ x. Ok (Reclaimed x)) (sym (none_dead (dead l) l.versions (idle f.reached (last_is f ∙ none)).1));
   buffer = refl;
@@ -42,9 +42,9 @@ reclaim_idle {l = l} {t = t} {s = s} {v = v} f none b = record {
 
 pub reclaim_steps : {l : Ledger} {t : TransactionTable} {s s' : Store} {v v' : Stamps} → Fits l t s v → 0 < t.last → (b : List ℕ) (h u n : ℕ)
     → n ≡ pruned_count s h → s' ≡ pruned s h → v' ≡ trimmed v u
-    → h ≡ least_start (of_kind Reader) (min (t.clock + 1) (2 ^ 32 - 1)) (active_of t.records)
-    → u ≡ least_start (of_kind Updater) (min (t.clock + 1) (2 ^ 32 - 1)) (active_of t.records)
-    → Steps l Reclaim b (Ok (Reclaimed n)) b t s' v'
+    → h ≡ least_start (is_of_kind Reader) (min (t.clock + 1) (2 ^ 32 - 1)) (active_of t.records)
+    → u ≡ least_start (is_of_kind Updater) (min (t.clock + 1) (2 ^ 32 - 1)) (active_of t.records)
+    → FollowsStep l Reclaim b (Ok (Reclaimed n)) b t s' v'
 reclaim_steps {l = l} {t = t} {s = s} {s' = s'} {v = v} {v' = v'} f on b h u n en es ev eh eu =
     let at-o : h ≡ outlook l = eh ∙ least_is f Reader in
     let at-u : u ≡ trim_tick l = eu ∙ least_is f Updater in
@@ -59,7 +59,7 @@ reclaim_steps {l = l} {t = t} {s = s} {s' = s'} {v = v} {v' = v'} f on b h u n e
       after = subst (λ x. Fits (reclaimed l) t x v') same_store (subst (λ x. Fits (reclaimed l) t (pruned s (outlook l)) x) same_stamps fits);
     }
 
--- Room
+-- Short of cells
 
 module _ {l : Ledger} {t : TransactionTable} {s : Store} {v : Stamps} (f : Fits l t s v) (on : 0 < t.last) where
   -- as many cells are lacking
@@ -69,8 +69,8 @@ module _ {l : Ledger} {t : TransactionTable} {s : Store} {v : Stamps} (f : Fits 
       let keys : AllByRecursion (λ u. u.key < s.keys) l.versions = subst (λ k. AllByRecursion (λ u. u.key < k) l.versions) (ap (λ x. x.keys) m) (dated f.reached).keys in
       shortage_is l s v (f.holds on) keys (sym (ap (λ x. x.cells) m)) n
 
-  pub room_made : (n : ℕ) (short : Bool) → short ≡ is_some (shortage s.cells (kept s) n) → {t' : TransactionTable} {s' : Store} {v' : Stamps} → (short ≡ true → Fits (reclaimed l) t' s' v') → (short ≡ false → Fits l t' s' v') → Fits (with_room l n) t' s' v'
-  room_made n short e {t' = t'} {s' = s'} {v' = v'} after before = subst (λ b. Fits (cond b (reclaimed l) l) t' s' v') (e ∙ ap is_some (shortage_told n)) (go short after before)
+  pub fits_if_short : (n : ℕ) (short : Bool) → short ≡ is_some (shortage s.cells (kept s) n) → {t' : TransactionTable} {s' : Store} {v' : Stamps} → (short ≡ true → Fits (reclaimed l) t' s' v') → (short ≡ false → Fits l t' s' v') → Fits (reclaimed_if_short l n) t' s' v'
+  fits_if_short n short e {t' = t'} {s' = s'} {v' = v'} after before = subst (λ b. Fits (cond b (reclaimed l) l) t' s' v') (e ∙ ap is_some (shortage_told n)) (go short after before)
     where
       go : (b : Bool) → (b ≡ true → Fits (reclaimed l) t' s' v') → (b ≡ false → Fits l t' s' v') → Fits (cond b (reclaimed l) l) t' s' v'
       go true p q = p refl

@@ -2,19 +2,17 @@
 use Rattle.std.proofs.Common.{◌≡◌, ℕ, ◌+◌, ◌-◌, ◌<◌, ◌≤◌, min, List, [], ◌∷◌, ◌++◌, map, length, get_or, take, drop, set, sym, refl, ap, ◌∙◌, subst, ⊎_elim, arith}
 use Rattle.std.proofs.lemmas.List.{take_more, take_more_set, take_all, take_at, drop_at, drop_more, drop_all, drop-set-lt, length-take, length-drop, length-append, map_push, append_assoc, append-nil, nil_from_length, take-append-drop}
 use Rattle.std.proofs.lemmas.Bool.{cases_lt}
+use Rattle.ledger.proofs.Reclaims.{cons_parts}
 use Rattle.ledger.specs.Ledger.{Limits, new_ledger}
-use Rattle.ledger.specs.History.{Made}
-use Rattle.versions.specs.Meaning.{Store}
-use Rattle.validation.specs.Meaning.{Stamps}
+use Rattle.ledger.specs.History.{call_made, Made}
+use Rattle.versions.specs.Stores.{Store}
+use Rattle.validation.specs.Stamps.{Stamps}
 use Rattle.engine.specs.declared.engine.Engine.{Engine}
 use Rattle.engine.specs.declared.replay.Request.{Request}
 use Rattle.engine.specs.Fits.{Fits}
-use Rattle.engine.specs.Steps.{Lawfully, GoesOn, call_made}
-use Rattle.engine.specs.Replays.{beyond, onto, wish, Each, Replayed}
+use Rattle.engine.specs.Steps.{LeadsLawfullyTo, GoesOn}
+use Rattle.engine.specs.Replays.{beyond, onto, call_and_room, EachLeads, IsReplayed}
 use Rattle.engine.proofs.Histories.{lawful_in}
-
-head_same : {X : Type 0} (x y : X) (xs ys : List X) → x ∷ xs ≡ y ∷ ys → (x ≡ y) × (xs ≡ ys)
-head_same x y xs ys e = (cc, cc)
 
 beyond_push : (qs : List Request) (q : Request) (bs : List ℕ) → beyond (qs ++ (q ∷ [])) bs ≡ drop q.room (beyond qs bs)
 beyond_push [] q bs = refl
@@ -27,30 +25,30 @@ own_part n new ys e = ⊎_elim (λ (lt : n < length new + length ys). (take_at n
     rw (none, append-nil new) (take_all n new (omega arith), drop_all n new (omega arith))) (cases_lt n (length new + length ys))
 
 -- a buffer filled leaves as many places
-pub ends_within : (start k : ℕ) (cs new : List ℕ) → start + k ≤ length cs → length new ≡ length (take k (drop start cs)) → start + k ≤ length (take start cs ++ (new ++ drop k (drop start cs)))
-ends_within start k cs new le long = omega (arith, length-append (take start cs) (new ++ drop k (drop start cs)), length-append new (drop k (drop start cs)), length-take start cs, length-take k (drop start cs), length-drop start cs)
+pub stays_within : (start k : ℕ) (cs new : List ℕ) → start + k ≤ length cs → length new ≡ length (take k (drop start cs)) → start + k ≤ length (take start cs ++ (new ++ drop k (drop start cs)))
+stays_within start k cs new le long = omega (arith, length-append (take start cs) (new ++ drop k (drop start cs)), length-append new (drop k (drop start cs)), length-take start cs, length-take k (drop start cs), length-drop start cs)
 
 -- the first i requests are done, and rest are the places not given to them
-pub record Gone {S V : Type 0} (m : S → Store) (p : V → Stamps) (n : Limits) (i start : ℕ) (qs rs : List Request) (bs cs : List ℕ) (e : Engine S V) : Type 0 where
+pub record IsReplayedUpTo {S V : Type 0} (m : S → Store) (p : V → Stamps) (n : Limits) (i start : ℕ) (qs rs : List Request) (bs cs : List ℕ) (e : Engine S V) : Type 0 where
   pub ms : List Made
   pub front : List ℕ
   pub rest : List ℕ
   pub starts : length front ≡ start
   pub is_cs : cs ≡ front ++ rest
   pub left : drop i rs ≡ drop i qs
-  pub same_wishes : map wish (take i rs) ≡ map wish (take i qs)
+  pub same_calls : map call_and_room (take i rs) ≡ map call_and_room (take i qs)
   -- the front is all that the requests done take
   pub past : beyond (take i qs) bs ≡ rest
   pub past_front : (ys : List ℕ) → length ys ≡ length rest → beyond (take i qs) (front ++ ys) ≡ ys
   -- the history so far, whatever comes
   pub carry : (qs' rs' : List Request) (ys : List ℕ) → length ys ≡ length rest → onto [] (take i qs ++ qs') (take i rs ++ rs') bs (front ++ ys) ≡ onto ms qs' rs' rest ys
-  pub whole : Lawfully m p n ms e
-  pub beginnings : Each m p n ms
+  pub whole : LeadsLawfullyTo m p n ms e
+  pub beginnings : EachLeads m p n ms
 
 module _ {S V : Type 0} (m : S → Store) (p : V → Stamps) (n : Limits) where
-  pub gone_none : (qs : List Request) (bs : List ℕ) (e : Engine S V) → Fits (new_ledger n) e.table (m e.store) (p e.validator) → Gone m p n 0 0 qs qs bs bs e
-  gone_none qs bs e f =
-      let now : Lawfully m p n [] e = ((tt, f), lawful_in n [] tt f) in
+  pub replayed_none : (qs : List Request) (bs : List ℕ) (e : Engine S V) → Fits (new_ledger n) e.table (m e.store) (p e.validator) → IsReplayedUpTo m p n 0 0 qs qs bs bs e
+  replayed_none qs bs e f =
+      let now : LeadsLawfullyTo m p n [] e = ((tt, f), lawful_in n [] tt f) in
       record {
         ms = [];
         front = [];
@@ -58,7 +56,7 @@ module _ {S V : Type 0} (m : S → Store) (p : V → Stamps) (n : Limits) where
         starts = refl;
         is_cs = refl;
         left = refl;
-        same_wishes = refl;
+        same_calls = refl;
         past = refl;
         past_front = λ ys same. refl;
         carry = λ qs' rs' ys same. refl;
@@ -67,13 +65,13 @@ module _ {S V : Type 0} (m : S → Store) (p : V → Stamps) (n : Limits) where
       }
 
   -- the i-th request, r after it was made, with new left in its buffer
-  pub gone_more : (i start end : ℕ) (qs rs : List Request) (bs cs new cs' : List ℕ) (e e' : Engine S V) (d r : Request) → Gone m p n i start qs rs bs cs e → i < length qs → length rs ≡ length qs → wish r ≡ wish (get_or rs i d) → end ≡ start + min r.room (length cs - start) → length new ≡ length (take (end - start) (drop start cs)) → cs' ≡ take start cs ++ (new ++ drop (end - start) (drop start cs)) → GoesOn m p e e' r.call (take (end - start) (drop start cs)) r.answer new → Gone m p n (i + 1) end qs (set rs i r) bs cs' e'
-  gone_more i start end qs rs bs cs new cs' e e' d r g lt len wishes is-end as_long is-new goes =
+  pub replayed_more : (i start end : ℕ) (qs rs : List Request) (bs cs new cs' : List ℕ) (e e' : Engine S V) (d r : Request) → IsReplayedUpTo m p n i start qs rs bs cs e → i < length qs → length rs ≡ length qs → call_and_room r ≡ call_and_room (get_or rs i d) → end ≡ start + min r.room (length cs - start) → length new ≡ length (take (end - start) (drop start cs)) → cs' ≡ take start cs ++ (new ++ drop (end - start) (drop start cs)) → GoesOn m p e e' r.call (take (end - start) (drop start cs)) r.answer new → IsReplayedUpTo m p n (i + 1) end qs (set rs i r) bs cs' e'
+  replayed_more i start end qs rs bs cs new cs' e e' d r g lt len calls is-end as_long is-new goes =
       let q = get_or qs i d in
-      let two = head_same (get_or rs i d) q (drop (i + 1) rs) (drop (i + 1) qs) (sym (drop_more rs i d (omega arith)) ∙ g.left ∙ drop_more qs i d lt) in
-      let same-wish : wish r ≡ wish q = wishes ∙ ap wish two.0 in
-      let same-call : r.call ≡ q.call = ap (λ w. w.0) same-wish in
-      let same-room : r.room ≡ q.room = ap (λ w. w.1) same-wish in
+      let two = cons_parts (get_or rs i d) q (drop (i + 1) rs) (drop (i + 1) qs) (sym (drop_more rs i d (omega arith)) ∙ g.left ∙ drop_more qs i d lt) in
+      let same-both : call_and_room r ≡ call_and_room q = calls ∙ ap call_and_room two.0 in
+      let same-call : r.call ≡ q.call = ap (λ w. w.0) same-both in
+      let same-room : r.room ≡ q.room = ap (λ w. w.1) same-both in
       let before = take_more qs i d lt in
       let after = take_more_set rs i r (omega arith) in
       let k = end - start in
@@ -94,7 +92,7 @@ module _ {S V : Type 0} (m : S → Store) (p : V → Stamps) (n : Limits) where
         starts = length-append g.front new ∙ omega (arith, g.starts);
         is_cs = is-new ∙ ap (λ xs. xs ++ (new ++ drop k (drop start cs))) (ap (take start) g.is_cs ∙ take_at g.front g.rest start g.starts) ∙ ap (λ xs. g.front ++ (new ++ drop k xs)) dropped ∙ sym (append_assoc g.front new (drop k g.rest));
         left = drop-set-lt (i + 1) rs i r (omega arith) ∙ two.1;
-        same_wishes = ap (map wish) after ∙ map_push wish (take i rs) r ∙ ap (λ ws. ws ++ (wish r ∷ [])) g.same_wishes ∙ ap (λ w. map wish (take i qs) ++ (w ∷ [])) same-wish ∙ sym (map_push wish (take i qs) q) ∙ ap (map wish) (sym before);
+        same_calls = ap (map call_and_room) after ∙ map_push call_and_room (take i rs) r ∙ ap (λ ws. ws ++ (call_and_room r ∷ [])) g.same_calls ∙ ap (λ w. map call_and_room (take i qs) ++ (w ∷ [])) same-both ∙ sym (map_push call_and_room (take i qs) q) ∙ ap (map call_and_room) (sym before);
         past = ap (λ xs. beyond xs bs) before ∙ beyond_push (take i qs) q bs ∙ ap (drop q.room) g.past ∙ more;
         past_front = λ ys same. ap (λ xs. beyond xs ((g.front ++ new) ++ ys)) before ∙ beyond_push (take i qs) q ((g.front ++ new) ++ ys) ∙ ap (λ xs. drop q.room (beyond (take i qs) xs)) (append_assoc g.front new ys) ∙ ap (drop q.room) (g.past_front (new ++ ys) (long_rest ys same)) ∙ (own ys same).1;
         carry = λ qs' rs' ys same.
@@ -113,14 +111,14 @@ module _ {S V : Type 0} (m : S → Store) (p : V → Stamps) (n : Limits) where
         beginnings = ((e', now), g.beginnings);
       }
 
-  pub gone_all : (i start : ℕ) (qs rs : List Request) (bs cs : List ℕ) (e : Engine S V) → Gone m p n i start qs rs bs cs e → length qs ≤ i → length rs ≡ length qs → Replayed m p n qs rs bs cs e
-  gone_all i start qs rs bs cs e g le len =
+  pub replayed_all : (i start : ℕ) (qs rs : List Request) (bs cs : List ℕ) (e : Engine S V) → IsReplayedUpTo m p n i start qs rs bs cs e → length qs ≤ i → length rs ≡ length qs → IsReplayed m p n qs rs bs cs e
+  replayed_all i start qs rs bs cs e g le len =
       let all-qs = take_all i qs le in
       let all-rs = take_all i rs (omega arith) in
       let is : onto [] qs rs bs cs ≡ g.ms = ap (λ xs. onto [] xs rs bs cs) (sym (append-nil qs)) ∙ ap (λ xs. onto [] (qs ++ []) xs bs cs) (sym (append-nil rs)) ∙ ap (λ xs. onto [] (xs ++ []) (rs ++ []) bs cs) (sym all-qs) ∙ ap (λ xs. onto [] (take i qs ++ []) (xs ++ []) bs cs) (sym all-rs) ∙ ap (onto [] (take i qs ++ []) (take i rs ++ []) bs) g.is_cs ∙ g.carry [] [] g.rest refl in
       record {
-        same_wishes = ap (map wish) (sym all-rs) ∙ g.same_wishes ∙ ap (map wish) all-qs;
+        same_calls = ap (map call_and_room) (sym all-rs) ∙ g.same_calls ∙ ap (map call_and_room) all-qs;
         left_over = ap (λ xs. beyond xs cs) (sym all-qs) ∙ ap (beyond (take i qs)) g.is_cs ∙ g.past_front g.rest refl ∙ sym g.past ∙ ap (λ xs. beyond xs bs) all-qs;
-        whole = subst (λ ms. Lawfully m p n ms e) (sym is) g.whole;
-        beginnings = subst (λ ms. Each m p n ms) (sym is) g.beginnings;
+        whole = subst (λ ms. LeadsLawfullyTo m p n ms e) (sym is) g.whole;
+        beginnings = subst (λ ms. EachLeads m p n ms) (sym is) g.beginnings;
       }

@@ -9,38 +9,38 @@ use Rattle.engine.specs.declared.fault.SetUpFault.{SetUpFault}
 use Rattle.engine.specs.declared.fault.SetUpFault.TheVariants.{LastTick, NotFresh}
 use Rattle.ledger.specs.Ledger.{Limits, new_ledger}
 use Rattle.ledger.specs.Reach.{new}
-use Rattle.versions.specs.Meaning.{Store, kept, sum_below}
-use Rattle.validation.specs.Meaning.{Stamps, latest, greatest_below, stamp_at}
+use Rattle.versions.specs.Stores.{Store, kept, sum_below}
+use Rattle.validation.specs.Stamps.{Stamps, latest, greatest_below, stamp_at}
 use Rattle.transaction_table.specs.declared.table.TransactionTable.{TransactionTable}
 use Rattle.transaction_table.specs.View.{active_of}
-use Rattle.transaction_table.specs.Shuffle.{Shuffle, done}
+use Rattle.transaction_table.specs.Shuffle.{IsShuffle, done}
 use Rattle.engine.specs.SetUp.{engine_check, last_of}
 use Rattle.engine.specs.Fits.{Fits, limits_of}
 use Rattle.engine.specs.Parts.{FitsEngine, FitsNew, store_of, validator_of, table_of}
 
--- a sum of none
-sum_none : (n : ℕ) (f : ℕ → ℕ) → sum_below n f ≡ 0 → (k : ℕ) → k < n → f k ≡ 0
-sum_none zero f e k lt = absurd (omega arith)
-sum_none (suc n) f e k lt = ⊎_elim (λ (q : k ≡ n). ap f q ∙ omega arith) (λ (q : k ≡ n → ⊥). sum_none n f (omega arith) k (omega arith)) (cases_eq k n)
+-- a sum that is 0 has no part above 0
+none_in_sum : (n : ℕ) (f : ℕ → ℕ) → sum_below n f ≡ 0 → (k : ℕ) → k < n → f k ≡ 0
+none_in_sum zero f e k lt = absurd (omega arith)
+none_in_sum (suc n) f e k lt = ⊎_elim (λ (q : k ≡ n). ap f q ∙ omega arith) (λ (q : k ≡ n → ⊥). none_in_sum n f (omega arith) k (omega arith)) (cases_eq k n)
 
 greatest_none : (n : ℕ) (f : ℕ → ℕ) → greatest_below n f ≡ 0 → (k : ℕ) → k < n → f k ≡ 0
 greatest_none zero f e k lt = absurd (omega arith)
 greatest_none (suc n) f e k lt = ⊎_elim (λ (q : k ≡ n). ap f q ∙ omega arith) (λ (q : k ≡ n → ⊥). greatest_none n f (omega arith) k (omega arith)) (cases_eq k n)
 
-pub record Accepted (last : ℕ) (s : Store) (v : Stamps) : Type 0 where
+pub record PassesEngineCheck (last : ℕ) (s : Store) (v : Stamps) : Type 0 where
   pub some : 0 < last
   pub small : last ≤ LAST_TICK
   pub same_keys : v.keys ≡ s.keys
   pub no_versions : kept s ≡ 0
   pub no_stamps : latest v ≡ 0
 
-abbrev fine : Result (Unit {0}) SetUpFault
-fine = Ok tt
+abbrev no_fault : Result (Unit {0}) SetUpFault
+no_fault = Ok tt
 
-pub accepted : (last : ℕ) (s : Store) (v : Stamps) → fine ≡ engine_check last s v → Accepted last s v
-accepted last s v e = go (eqb last 0) (ltb LAST_TICK last) (eqb s.keys v.keys) (ltb 0 (kept s)) (ltb 0 (latest v)) refl refl refl refl refl e
+check_passed : (last : ℕ) (s : Store) (v : Stamps) → no_fault ≡ engine_check last s v → PassesEngineCheck last s v
+check_passed last s v e = go (eqb last 0) (ltb LAST_TICK last) (eqb s.keys v.keys) (ltb 0 (kept s)) (ltb 0 (latest v)) refl refl refl refl refl e
   where
-    go : (a b c d x : Bool) → eqb last 0 ≡ a → ltb LAST_TICK last ≡ b → eqb s.keys v.keys ≡ c → ltb 0 (kept s) ≡ d → ltb 0 (latest v) ≡ x → fine ≡ cond (a || b) (Err (LastTick last)) (cond (not c || (d || x)) (Err NotFresh) fine) → Accepted last s v
+    go : (a b c d x : Bool) → eqb last 0 ≡ a → ltb LAST_TICK last ≡ b → eqb s.keys v.keys ≡ c → ltb 0 (kept s) ≡ d → ltb 0 (latest v) ≡ x → no_fault ≡ cond (a || b) (Err (LastTick last)) (cond (not c || (d || x)) (Err NotFresh) no_fault) → PassesEngineCheck last s v
     go true b c d x i j k m n q = let z : ◌≡◌ {A = ℕ} 0 1 = cc in absurd (omega arith)
     go false true c d x i j k m n q = let z : ◌≡◌ {A = ℕ} 0 1 = cc in absurd (omega arith)
     go false false false d x i j k m n q = let z : ◌≡◌ {A = ℕ} 0 1 = cc in absurd (omega arith)
@@ -53,20 +53,20 @@ new_fits last s v t e ticks none = go (engine_check last s v) refl e
   where
     go : (r : Result (Unit {0}) SetUpFault) → r ≡ engine_check last s v → t.last ≡ cond (is_ok r) last 0 → Fits (new_ledger (limits_of t.last s v)) t s v
     go (Ok u) is z =
-        let a = accepted last s v is in
+        let a = check_passed last s v is in
         record {
           reached = new _;
           ticks = omega (arith, a.small);
           limits = refl;
           clock = sym ticks;
-          active = subst (Shuffle []) (sym none) done;
+          active = subst (IsShuffle []) (sym none) done;
           holds = λ _. record {
             same_keys = a.same_keys;
-            revisions = λ k lt. nil_from_length (s.versions k) (sum_none s.keys (λ k. length (s.versions k)) a.no_versions k lt);
+            revisions = λ k lt. nil_from_length (s.versions k) (none_in_sum s.keys (λ k. length (s.versions k)) a.no_versions k lt);
             stamps = λ k lt. greatest_none v.keys (stamp_at v) a.no_stamps k (omega (arith, a.same_keys));
           };
         }
-    go (Err x) is z = record { reached = new _; ticks = omega arith; limits = refl; clock = sym ticks; active = subst (Shuffle []) (sym none) done; holds = λ p. absurd (omega arith) }
+    go (Err x) is z = record { reached = new _; ticks = omega arith; limits = refl; clock = sym ticks; active = subst (IsShuffle []) (sym none) done; holds = λ p. absurd (omega arith) }
 
 -- an engine made of what means this fits the new ledger of these limits
 pub made_with : {S V : Type 0} (m : S → Store) (p : V → Stamps) (k : Limits) (last : ℕ) (a : Store) (b : Stamps) (s : S) (v : V) (e : Engine S V) → limits_of (last_of last a b) a b ≡ k → m s ≡ a → p v ≡ b

@@ -3,8 +3,8 @@ use Rattle.std.specs.Prelude.{ℕ, List, [], ◌∷◌, None, Ok, Err, Option, R
 use Rattle.std.specs.Option.{option_or}
 use Rattle.ledger.specs.declared.Range.{Range}
 use Rattle.ledger.specs.declared.Write.{Write}
-use Rattle.versions.specs.Meaning.{Store, added}
-use Rattle.validation.specs.Meaning.{Stamps, clash_answer, noted}
+use Rattle.versions.specs.Stores.{Store, added}
+use Rattle.validation.specs.Stamps.{Stamps, clash_answer, noted}
 use Rattle.validation.specs.declared.fault.ValidatorFault.{ValidatorFault}
 use Rattle.validation.specs.declared.validator.Clash.{Clash}
 

@@ -1,4 +1,4 @@
-pub mod Shows
+pub mod Reads
 pub mod Fits
 pub mod SetUp
 pub mod Endings

@@ -1,8 +1,8 @@
 -- What an engine is made of, and what a slip holds.
 use Rattle.std.specs.Prelude.{ℕ}
 use Rattle.ledger.specs.Ledger.{Ledger, new_ledger}
-use Rattle.versions.specs.Meaning.{Store}
-use Rattle.validation.specs.Meaning.{Stamps}
+use Rattle.versions.specs.Stores.{Store}
+use Rattle.validation.specs.Stamps.{Stamps}
 use Rattle.transaction_table.specs.declared.table.TransactionTable.{TransactionTable}
 use Rattle.engine.specs.declared.engine.Engine.{Engine}
 use Rattle.engine.specs.declared.slip.Slip.{Slip}

@@ -2,18 +2,18 @@
 use Rattle.std.specs.Prelude.{ℕ, if◌then◌else◌, not, ◌||◌, Ok, Err, Result, ◌==◌, nat_lt}
 use Rattle.std.specs.Result.{is_ok}
 use Rattle.refusals.specs.declared.Report.{Report}
-use Rattle.ledger.specs.Faults.{layer_report}
-use Rattle.versions.specs.Meaning.{Store, kept}
-use Rattle.validation.specs.Meaning.{Stamps, latest}
+use Rattle.ledger.specs.Faults.{third_layer}
+use Rattle.versions.specs.Stores.{Store, kept}
+use Rattle.validation.specs.Stamps.{Stamps, latest}
 use Rattle.engine.specs.declared.engine.TheConstants.{LAST_TICK}
 use Rattle.engine.specs.declared.fault.SetUpFault.{SetUpFault}
 use Rattle.engine.specs.declared.fault.SetUpFault.TheVariants.{LastTick, NotFresh}
 
 abbrev pub set_up_report : SetUpFault → Report
 -- the last tick is outside 1 to the greatest: the place is that tick
-set_up_report (LastTick z) = layer_report 2 z
+set_up_report (LastTick z) = third_layer 2 z
 -- store and validator differ in keys, or one of them is not empty
-set_up_report NotFresh = layer_report 8 0
+set_up_report NotFresh = third_layer 8 0
 
 -- the last tick, then that store and validator have the same keys, and nothing yet
 abbrev pub engine_check : ℕ → Store → Stamps → Result (Unit {0}) SetUpFault

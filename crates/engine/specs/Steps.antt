@@ -1,26 +1,21 @@
 -- The contracts of the calls.
 use Rattle.std.specs.Prelude.{◌≡◌, ℕ, List, ◌∷◌, Result}
-use Rattle.std.specs.Result.{result_map_both}
 use Rattle.ledger.specs.declared.Call.{Call}
 use Rattle.ledger.specs.declared.Fault.{Fault}
 use Rattle.ledger.specs.declared.Done.{Done}
 use Rattle.ledger.specs.Ledger.{Limits, Ledger}
 use Rattle.ledger.specs.Calls.{step}
-use Rattle.ledger.specs.History.{Made, after, Told}
-use Rattle.ledger.specs.Laws.{Lawful}
-use Rattle.versions.specs.Meaning.{Store, newest}
-use Rattle.validation.specs.Meaning.{Stamps}
+use Rattle.ledger.specs.History.{Made, call_made, after, IsTold}
+use Rattle.ledger.specs.Laws.{IsLawfulHistory}
+use Rattle.versions.specs.Stores.{Store, newest}
+use Rattle.validation.specs.Stamps.{Stamps}
 use Rattle.transaction_table.specs.declared.table.TransactionTable.{TransactionTable}
 use Rattle.engine.specs.declared.engine.Engine.{Engine}
 use Rattle.engine.specs.Fits.{Fits}
 use Rattle.engine.specs.Parts.{FitsEngine}
 
--- the answer that a result is
-abbrev pub answer_by : {X : Type 0} → (X → Done) → Result X Fault → Result Done Fault
-answer_by f r = result_map_both f (λ e. e) r
-
 -- the answer and the buffer are the ledger's, and the ledger after the call fits
-pub record Steps (l : Ledger) (c : Call) (b : List ℕ) (a : Result Done Fault) (b' : List ℕ) (t : TransactionTable) (s : Store) (v : Stamps) : Type 0 where
+pub record FollowsStep (l : Ledger) (c : Call) (b : List ℕ) (a : Result Done Fault) (b' : List ℕ) (t : TransactionTable) (s : Store) (v : Stamps) : Type 0 where
   pub answer : a ≡ (step l c b).answer
   pub buffer : b' ≡ (step l c b).buffer
   pub after : Fits (step l c b).ledger t s v
@@ -30,31 +25,28 @@ pub record Steps (l : Ledger) (c : Call) (b : List ℕ) (a : Result Done Fault) 
 -- each ledger that fits before the call tells the answer and the buffer, and fits a step further after it
 abbrev pub Refines : {S V : Type 0} → (S → Store) → (V → Stamps) → Engine S V → Engine S V → Call → List ℕ → Result Done Fault → List ℕ → Type 0
 Refines m p e e' c b a b' = (l : Ledger) → FitsEngine m p l e
-    → Steps l c b a b' e'.table (m e'.store) (p e'.validator)
+    → FollowsStep l c b a b' e'.table (m e'.store) (p e'.validator)
 
 -- the same of a call that is lent no buffer: whatever it is, it is left as it was
 abbrev pub RefinesUnlent : {S V : Type 0} → (S → Store) → (V → Stamps) → Engine S V → Engine S V → Call → Result Done Fault → Type 0
 RefinesUnlent m p e e' c a = (b : List ℕ) → Refines m p e e' c b a b
 
 -- an engine from a refused set-up touches neither store nor validator, and stays one
-abbrev pub Idle : {S V : Type 0} → Engine S V → Engine S V → Type 0
-Idle e e' = e.table.last ≡ 0 → (e'.store ≡ e.store) × (e'.validator ≡ e.validator) × (e'.table.last ≡ 0)
+abbrev pub StaysIdle : {S V : Type 0} → Engine S V → Engine S V → Type 0
+StaysIdle e e' = e.table.last ≡ 0 → (e'.store ≡ e.store) × (e'.validator ≡ e.validator) × (e'.table.last ≡ 0)
 
 -- the history led to the engine
-abbrev pub Led : {S V : Type 0} → (S → Store) → (V → Stamps) → Limits → List Made → Engine S V → Type 0
-Led m p n ms e = Told n ms × FitsEngine m p (after n ms) e
+abbrev pub LeadsTo : {S V : Type 0} → (S → Store) → (V → Stamps) → Limits → List Made → Engine S V → Type 0
+LeadsTo m p n ms e = IsTold n ms × FitsEngine m p (after n ms) e
 
 -- the values that the store's newest answers
 abbrev pub newest_in : Store → ℕ → ℕ
 newest_in s k = (newest (s.versions k)).value
 
 -- the history led to the engine, and is lawful
-abbrev pub Lawfully : {S V : Type 0} → (S → Store) → (V → Stamps) → Limits → List Made → Engine S V → Type 0
-Lawfully m p n ms e = Led m p n ms e × Lawful n ms (newest_in (m e.store))
-
-abbrev pub call_made : Call → List ℕ → Result Done Fault → List ℕ → Made
-call_made c b a b' = record { call = c; given = b; answer = a; left = b' }
+abbrev pub LeadsLawfullyTo : {S V : Type 0} → (S → Store) → (V → Stamps) → Limits → List Made → Engine S V → Type 0
+LeadsLawfullyTo m p n ms e = LeadsTo m p n ms e × IsLawfulHistory n ms (newest_in (m e.store))
 
 -- each history that led to the engine before the call leads on, with this call, to the engine after it, and is lawful
 abbrev pub GoesOn : {S V : Type 0} → (S → Store) → (V → Stamps) → Engine S V → Engine S V → Call → List ℕ → Result Done Fault → List ℕ → Type 0
-GoesOn m p e e' c b a b' = (n : Limits) (ms : List Made) → Led m p n ms e → Lawfully m p n (call_made c b a b' ∷ ms) e'
+GoesOn m p e e' c b a b' = (n : Limits) (ms : List Made) → LeadsTo m p n ms e → LeadsLawfullyTo m p n (call_made c b a b' ∷ ms) e'

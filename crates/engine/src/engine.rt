@@ -1,15 +1,16 @@
 ghost use Rattle.std.specs.Prelude.{◌≡◌, ◌+◌, ◌^◌, ◌<◌, ◌≤◌, ◌++◌, map, length, drop, position, IfOk, OnErr};
 ghost use Rattle.std.specs.List.{range_with_len};
 ghost use Rattle.std.specs.Option.{ok_or};
+ghost use Rattle.refusals.specs.Results.{result_map};
 ghost use Rattle.ledger.specs.declared.Call.TheVariants.{Begin, Read, Write, Abort};
 ghost use Rattle.ledger.specs.declared.Done.TheVariants.{Began, Read as ReadDone, Wrote, Aborted};
 ghost use Rattle.ledger.specs.declared.Fault.TheVariants.{NoTransaction};
 ghost use Rattle.transaction_table.specs.View.{view};
-ghost use Rattle.transaction_table.specs.Places.{begin_answer, has_handle};
-ghost use Rattle.engine.specs.Shows.{shown};
+ghost use Rattle.transaction_table.specs.Slots.{begin_answer, has_handle};
+ghost use Rattle.engine.specs.Reads.{read_value};
 ghost use Rattle.engine.specs.Parts.{store_of, validator_of, table_of, FitsNew};
 ghost use Rattle.engine.specs.SetUp.{engine_check, last_of};
-ghost use Rattle.engine.specs.Steps.{Refines, RefinesUnlent, Idle, answer_by};
+ghost use Rattle.engine.specs.Steps.{Refines, RefinesUnlent, StaysIdle};
 
 use crate::fault::SetUpFault;
 use ledger::{Call, Fault, Kind, MAX_ACTIVE, Range};
@@ -32,7 +33,7 @@ pub struct Engine<S, V> {
     table: TransactionTable,
 }
 
-// `Idle` stands at each call: a fact of the step, and of no engine by itself.
+// `StaysIdle` stands at each call: a fact of the step, and of no engine by itself.
 impl<S: VersionStore, V: Validator> Engine<S, V> {
     /// Whether an engine can be made of these.
     // The three travel together only as far as `make`, and the struct of them is what it makes.
@@ -68,9 +69,9 @@ impl<S: VersionStore, V: Validator> Engine<S, V> {
     pub fn begin(&mut self, kind: Kind) -> Result<u32, Fault>
         ensures answer { result ≡ begin_answer (table_of self.old) }
         ensures refines { RefinesUnlent S.meaning V.meaning self.old self.new
-            (Begin kind) (answer_by Began result) }
+            (Begin kind) (result_map Began result) }
         ensures refusal { OnErr result (self.new ≡ self.old) }
-        ensures idle { Idle self.old self.new }
+        ensures idle { StaysIdle self.old self.new }
     {
         self.table.begin(kind)
     }
@@ -84,9 +85,9 @@ impl<S: VersionStore, V: Validator> Engine<S, V> {
         buffer: &mut [u64],
     ) -> Result<(), Fault>
         ensures refines { Refines S.meaning V.meaning self.old self.new
-            (Read handle first count) buffer.old (answer_by (λ _. ReadDone count) result) buffer.new }
+            (Read handle first count) buffer.old (result_map (λ _. ReadDone count) result) buffer.new }
         ensures refusal { OnErr result ((self.new ≡ self.old) × (buffer.new ≡ buffer.old)) }
-        ensures idle { Idle self.old self.new }
+        ensures idle { StaysIdle self.old self.new }
     {
         let slot = self.place(handle)?;
         let keys = self.store.keys();
@@ -104,9 +105,9 @@ impl<S: VersionStore, V: Validator> Engine<S, V> {
     /// Notes a value to be written to a key when the transaction is committed.
     pub fn write(&mut self, handle: u32, key: u16, value: u64) -> Result<(), Fault>
         ensures refines { RefinesUnlent S.meaning V.meaning self.old self.new
-            (Write handle key value) (answer_by (λ _. Wrote) result) }
+            (Write handle key value) (result_map (λ _. Wrote) result) }
         ensures refusal { OnErr result (self.new ≡ self.old) }
-        ensures idle { Idle self.old self.new }
+        ensures idle { StaysIdle self.old self.new }
     {
         let slot = self.place(handle)?;
         let keys = self.store.keys();
@@ -118,9 +119,9 @@ impl<S: VersionStore, V: Validator> Engine<S, V> {
     /// Ends a transaction, and nothing that it wrote is kept.
     pub fn abort(&mut self, handle: u32) -> Result<(), Fault>
         ensures refines { RefinesUnlent S.meaning V.meaning self.old self.new
-            (Abort handle) (answer_by (λ _. Aborted) result) }
+            (Abort handle) (result_map (λ _. Aborted) result) }
         ensures refusal { OnErr result (self.new ≡ self.old) }
-        ensures idle { Idle self.old self.new }
+        ensures idle { StaysIdle self.old self.new }
     {
         let slot = self.place(handle)?;
         let keys = self.store.keys();
@@ -142,31 +143,31 @@ impl<S: VersionStore, V: Validator> Engine<S, V> {
 }
 
 /// Fills the front of the buffer with what the transaction reads at the keys of the range.
-fn fill<S: VersionStore>(store: &S, taker: &Record, range: Range, buffer: &mut [u64])
+fn fill<S: VersionStore>(store: &S, transaction: &Record, range: Range, buffer: &mut [u64])
     requires count_in_bounds { range.count ≤ length buffer.old }
     requires count_bound { range.first + range.count < 2 ^ 16 }
     requires in_store { range.first + range.count ≤ (S.meaning store.now).keys }
-    ensures { buffer.new ≡ map (shown (S.meaning store.now) (view taker.now))
+    ensures { buffer.new ≡ map (read_value (S.meaning store.now) (view transaction.now))
         (range_with_len range.first range.count) ++ drop range.count buffer.old }
 {
     // No `zip` with the keys: of what a loop writes through a `zip` no proof knows the values.
     let front = &mut buffer[..usize::from(range.count)];
     for (i, place) in front.iter_mut().enumerate() {
         // `i` is below the count.
-        *place = value_at(store, taker, range.first + i as u16);
+        *place = value_at(store, transaction, range.first + i as u16);
     }
 }
 
 /// What the transaction reads at a key.
-fn value_at<S: VersionStore>(store: &S, taker: &Record, key: u16) -> u64
+fn value_at<S: VersionStore>(store: &S, transaction: &Record, key: u16) -> u64
     requires { key < (S.meaning store.now).keys }
-    ensures { result ≡ shown (S.meaning store.now) (view taker.now) key }
+    ensures { result ≡ read_value (S.meaning store.now) (view transaction.now) key }
 {
-    match taker.state {
-        State::Updater => match taker.writes.value(key) {
+    match transaction.state {
+        State::Updater => match transaction.writes.value(key) {
             Some(own) => own,
             None => store.newest(key).unwrap().1,
         },
-        State::Free | State::Reader => store.as_of(key, taker.moment()).unwrap().1,
+        State::Free | State::Reader => store.as_of(key, transaction.moment()).unwrap().1,
     }
 }

@@ -1,3 +1,4 @@
+use ledger::LAYER;
 use refusals::{Refusal, Report};
 
 /// Why no engine is made.
@@ -20,7 +21,7 @@ impl Refusal for SetUpFault {
             SetUpFault::NotFresh => (8, 0),
         };
         Report {
-            layer: 3,
+            layer: LAYER,
             number,
             place,
         }

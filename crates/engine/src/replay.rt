@@ -1,8 +1,7 @@
 // A list of calls, made one after another on one new engine.
-ghost use Rattle.std.specs.Prelude.{◌≡◌};
 ghost use Rattle.engine.specs.Fits.{limits_of};
 ghost use Rattle.engine.specs.SetUp.{last_of};
-ghost use Rattle.engine.specs.Replays.{Replayed};
+ghost use Rattle.engine.specs.Replays.{IsReplayed};
 
 use crate::engine::Engine;
 use ledger::{Call, Done, Fault};
@@ -29,7 +28,7 @@ pub fn replay<S: VersionStore + Drop, V: Validator + Drop>(
     requests: &mut [Request],
     buffers: &mut [u64],
 ) -> Engine<S, V>
-    ensures { Replayed S.meaning V.meaning
+    ensures { IsReplayed S.meaning V.meaning
         (limits_of (last_of last (S.meaning store) (V.meaning validator))
         (S.meaning store) (V.meaning validator))
         requests.old requests.new buffers.old buffers.new result }

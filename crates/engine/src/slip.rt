@@ -1,11 +1,12 @@
 // Slips: a transaction in hand, which has to be ended.
 ghost use Rattle.std.specs.Prelude.{◌≡◌, ◌<◌, IfOk, OnErr};
+ghost use Rattle.refusals.specs.Results.{result_map};
 ghost use Rattle.ledger.specs.declared.Kind.{Kind};
 ghost use Rattle.ledger.specs.declared.Kind.TheVariants.{Reader, Updater};
 ghost use Rattle.ledger.specs.declared.Call.TheVariants.{Begin, Read, Write, Commit, Abort};
 ghost use Rattle.ledger.specs.declared.Done.TheVariants.{Began, Read as ReadDone, Wrote, Ended, Aborted};
 ghost use Rattle.engine.specs.Parts.{slip_handle};
-ghost use Rattle.engine.specs.Steps.{Refines, RefinesUnlent, Idle, answer_by};
+ghost use Rattle.engine.specs.Steps.{Refines, RefinesUnlent, StaysIdle};
 
 use crate::engine::Engine;
 use ledger::{Fault, Kind, Verdict};
@@ -84,10 +85,10 @@ impl<S: VersionStore, V: Validator> Engine<S, V> {
     /// Begins a transaction of the slip's kind.
     pub fn begin_slip<K: Leave>(&mut self) -> Result<Slip<K>, Fault>
         ensures refines { RefinesUnlent S.meaning V.meaning self.old self.new
-            (Begin K.KIND) (answer_by (λ s. Began (slip_handle s)) result) }
+            (Begin K.KIND) (result_map (λ s. Began (slip_handle s)) result) }
         ensures refusal { OnErr result (self.new ≡ self.old) }
         ensures held { IfOk result (λ s. 0 < slip_handle s) }
-        ensures idle { Idle self.old self.new }
+        ensures idle { StaysIdle self.old self.new }
     {
         let handle = self.begin(K::KIND)?;
         Ok(Slip {
@@ -105,9 +106,9 @@ impl<S: VersionStore, V: Validator> Engine<S, V> {
     ) -> Result<(), Fault>
         ensures refines { Refines S.meaning V.meaning self.old self.new
             (Read (slip_handle slip.now) first count)
-            buffer.old (answer_by (λ _. ReadDone count) result) buffer.new }
+            buffer.old (result_map (λ _. ReadDone count) result) buffer.new }
         ensures refusal { OnErr result ((self.new ≡ self.old) × (buffer.new ≡ buffer.old)) }
-        ensures idle { Idle self.old self.new }
+        ensures idle { StaysIdle self.old self.new }
     {
         self.read(slip.handle, first, count, buffer)
     }
@@ -120,9 +121,9 @@ impl<S: VersionStore, V: Validator> Engine<S, V> {
         value: u64,
     ) -> Result<(), Fault>
         ensures refines { RefinesUnlent S.meaning V.meaning self.old self.new
-            (Write (slip_handle under.entry.slip.now) key value) (answer_by (λ _. Wrote) result) }
+            (Write (slip_handle under.entry.slip.now) key value) (result_map (λ _. Wrote) result) }
         ensures refusal { OnErr result (self.new ≡ self.old) }
-        ensures idle { Idle self.old self.new }
+        ensures idle { StaysIdle self.old self.new }
     {
         self.write(under.slip.handle, key, value)
     }
@@ -130,9 +131,9 @@ impl<S: VersionStore, V: Validator> Engine<S, V> {
     /// Takes the slip, even if it refuses.
     pub fn commit_under<K>(&mut self, slip: Slip<K>) -> Result<Verdict, Fault>
         ensures refines { RefinesUnlent S.meaning V.meaning self.old self.new
-            (Commit (slip_handle slip)) (answer_by Ended result) }
+            (Commit (slip_handle slip)) (result_map Ended result) }
         ensures refusal { OnErr result (self.new ≡ self.old) }
-        ensures idle { Idle self.old self.new }
+        ensures idle { StaysIdle self.old self.new }
     {
         self.commit(slip.spent())
     }
@@ -140,9 +141,9 @@ impl<S: VersionStore, V: Validator> Engine<S, V> {
     /// Takes the slip, even if it refuses.
     pub fn abort_under<K>(&mut self, slip: Slip<K>) -> Result<(), Fault>
         ensures refines { RefinesUnlent S.meaning V.meaning self.old self.new
-            (Abort (slip_handle slip)) (answer_by (λ _. Aborted) result) }
+            (Abort (slip_handle slip)) (result_map (λ _. Aborted) result) }
         ensures refusal { OnErr result (self.new ≡ self.old) }
-        ensures idle { Idle self.old self.new }
+        ensures idle { StaysIdle self.old self.new }
     {
         self.abort(slip.spent())
     }

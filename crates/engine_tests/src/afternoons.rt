@@ -101,7 +101,7 @@ fn report<S: VersionStore + Drop, V: Validator + Drop>(rt: &impl Abort, store: S
     assert_eq!(rt; buffers, [0, 9, 0, 0, 9, 9, 54, 9, 9, 9]);
 }
 
-// Two cells: without a reader a reclaim makes room, with one it does not.
+// Two cells: without a reader a reclaim frees one, with a reader it does not.
 fn handicaps<S: VersionStore + Drop, V: Validator + Drop>(rt: &impl Abort, store: S, validator: V) {
     let mut requests = [
         ask(Call::Begin(Kind::Updater), 0),

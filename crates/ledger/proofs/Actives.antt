@@ -7,35 +7,35 @@ use Rattle.ledger.specs.declared.Kind.{Kind}
 use Rattle.ledger.specs.declared.Call.{Call}
 use Rattle.ledger.specs.Ledger.{Transaction, found, least_start}
 use Rattle.ledger.specs.Calls.{without, changed, joins, joined, having_made}
-use Rattle.ledger.specs.Orderly.{Apart}
+use Rattle.ledger.specs.Orderly.{AreApart}
 
 -- a change that keeps a transaction's handle and its kind
-pub record Keeps (f : Transaction → Transaction) : Type 0 where
+pub record KeepsIdentity (f : Transaction → Transaction) : Type 0 where
   pub start : (t : Transaction) → (f t).start ≡ t.start
   pub kind : (t : Transaction) → (f t).kind ≡ t.kind
 
 abbrev pub change : ℕ → (Transaction → Transaction) → Transaction → Transaction
 change h f u = cond (eqb u.start h) (f u) u
 
-pub change_keeps : (h : ℕ) (f : Transaction → Transaction) → Keeps f → Keeps (change h f)
+pub change_keeps : (h : ℕ) (f : Transaction → Transaction) → KeepsIdentity f → KeepsIdentity (change h f)
 change_keeps h f k = record {
   start = λ u. cond_both (eqb u.start h) (f u) u (λ x. x.start ≡ u.start) (λ _. k.start u) (λ _. refl);
   kind = λ u. cond_both (eqb u.start h) (f u) u (λ x. x.kind ≡ u.kind) (λ _. k.kind u) (λ _. refl);
 }
 
-joined_keeps : (k n : ℕ) → Keeps (λ t. joined t k n)
+joined_keeps : (k n : ℕ) → KeepsIdentity (λ t. joined t k n)
 joined_keeps k n = record {
-  start = λ t. cond_both (joins t k n) _ t (λ u. u.start ≡ t.start) (λ _. refl) (λ _. refl);
-  kind = λ t. cond_both (joins t k n) _ t (λ u. u.kind ≡ t.kind) (λ _. refl) (λ _. refl);
+  start = λ t. cond_both (joins t n) _ t (λ u. u.start ≡ t.start) (λ _. refl) (λ _. refl);
+  kind = λ t. cond_both (joins t n) _ t (λ u. u.kind ≡ t.kind) (λ _. refl) (λ _. refl);
 }
 
 -- so is what a call makes of its transaction
-pub call_keeps : (c : Call) → Keeps (λ t. having_made t c)
+pub call_keeps : (c : Call) → KeepsIdentity (λ t. having_made t c)
 call_keeps (Call.Read h k n) = joined_keeps k n
 call_keeps _ = record { start = λ t. refl; kind = λ t. refl }
 
 pub joined_writes : (t : Transaction) (k n : ℕ) → (joined t k n).writes ≡ t.writes
-joined_writes t k n = cond_both (joins t k n) _ t (λ u. u.writes ≡ t.writes) (λ _. refl) (λ _. refl)
+joined_writes t k n = cond_both (joins t n) _ t (λ u. u.writes ≡ t.writes) (λ _. refl) (λ _. refl)
 
 pub some_same : {X : Type 0} (x y : X) (o : Option X) → o ≡ Some x → o ≡ Some y → x ≡ y
 some_same x y o p q = cc
@@ -74,7 +74,7 @@ found_without (u ∷ ts) g h t e = go (eqb u.start g) (eqb u.start h) refl refl 
 abbrev pub FoundAfter : ℕ → (Transaction → Transaction) → ℕ → Option Transaction → Transaction → Type 0
 FoundAfter g f h o t = ((h ≡ g) × ((u : Transaction) × (o ≡ Some u) × (t ≡ f u))) ⊎ ((h ≡ g → ⊥) × (o ≡ Some t))
 
-pub found_changed : (ts : List Transaction) (g : ℕ) (f : Transaction → Transaction) → Keeps f → (h : ℕ) (t : Transaction) → found (changed ts g f) h ≡ Some t → FoundAfter g f h (found ts h) t
+pub found_changed : (ts : List Transaction) (g : ℕ) (f : Transaction → Transaction) → KeepsIdentity f → (h : ℕ) (t : Transaction) → found (changed ts g f) h ≡ Some t → FoundAfter g f h (found ts h) t
 found_changed [] g f k h t e = never t None refl e
 found_changed (x ∷ ts) g f k h t e = go (eqb x.start g) (eqb x.start h) refl refl e (found_changed ts g f k h t)
   where
@@ -88,7 +88,7 @@ found_changed (x ∷ ts) g f k h t e = go (eqb x.start g) (eqb x.start h) refl r
     go false false d e' q ih = ih (rw e' at q)
 
 -- one that is not found is not found after a change, nor after one is taken out
-pub none_changed : (ts : List Transaction) (g : ℕ) (f : Transaction → Transaction) → Keeps f → (h : ℕ) → found ts h ≡ None → found (changed ts g f) h ≡ None
+pub none_changed : (ts : List Transaction) (g : ℕ) (f : Transaction → Transaction) → KeepsIdentity f → (h : ℕ) → found ts h ≡ None → found (changed ts g f) h ≡ None
 none_changed [] g f k h e = refl
 none_changed (x ∷ ts) g f k h e = go (eqb x.start h) refl e (none_changed ts g f k h)
   where
@@ -144,7 +144,7 @@ pub least_each : (p : Kind → Bool) (n : ℕ) (ts : List Transaction) → AllBy
 least_each p n [] = tt
 least_each p n (t ∷ ts) = (λ e. rw e (omega arith), All-weaker _ _ (λ u h e. let le = h e in cond_both (p t.kind) (min t.start (least_start p n ts)) (least_start p n ts) (λ m. m ≤ u.start) (λ _. omega arith) (λ _. omega arith)) ts (least_each p n ts))
 
-pub least_changed : (p : Kind → Bool) (n : ℕ) (ts : List Transaction) (h : ℕ) (f : Transaction → Transaction) → Keeps f → least_start p n (changed ts h f) ≡ least_start p n ts
+pub least_changed : (p : Kind → Bool) (n : ℕ) (ts : List Transaction) (h : ℕ) (f : Transaction → Transaction) → KeepsIdentity f → least_start p n (changed ts h f) ≡ least_start p n ts
 least_changed p n [] h f k = refl
 least_changed p n (t ∷ ts) h f k =
     let c = change_keeps h f k in
@@ -154,7 +154,7 @@ least_changed p n (t ∷ ts) h f k =
 -- What holds of each active transaction
 
 -- what depends on handle and kind alone is kept by a change
-pub all_changed_same : (Q : ℕ → Kind → Type 0) (ts : List Transaction) (h : ℕ) (f : Transaction → Transaction) → Keeps f → AllByRecursion (λ t. Q t.start t.kind) ts → AllByRecursion (λ t. Q t.start t.kind) (changed ts h f)
+pub all_changed_same : (Q : ℕ → Kind → Type 0) (ts : List Transaction) (h : ℕ) (f : Transaction → Transaction) → KeepsIdentity f → AllByRecursion (λ t. Q t.start t.kind) ts → AllByRecursion (λ t. Q t.start t.kind) (changed ts h f)
 all_changed_same Q [] h f k a = tt
 all_changed_same Q (t ∷ ts) h f k a =
     let c = change_keeps h f k in
@@ -165,7 +165,7 @@ all_others P [] h f ne a = tt
 all_others P (t ∷ ts) h f ne a = (cond_both (eqb t.start h) (f t) t P (λ e. absurd (ne.0 (eqb-true _ _ e))) (λ _. a.0), all_others P ts h f ne.1 a.1)
 
 -- what holds of each, and of the changed one
-pub all_changed : (P : Transaction → Type 0) (ts : List Transaction) (h : ℕ) (f : Transaction → Transaction) (t : Transaction) → Apart ts → found ts h ≡ Some t → AllByRecursion P ts → P (f t) → AllByRecursion P (changed ts h f)
+pub all_changed : (P : Transaction → Type 0) (ts : List Transaction) (h : ℕ) (f : Transaction → Transaction) (t : Transaction) → AreApart ts → found ts h ≡ Some t → AllByRecursion P ts → P (f t) → AllByRecursion P (changed ts h f)
 all_changed P [] h f t apart e a p = tt
 all_changed P (x ∷ ts) h f t apart e a p = go (eqb x.start h) refl e (λ q. all_changed P ts h f t apart.1 q a.1 p)
   where

@@ -8,7 +8,7 @@ use Rattle.ledger.specs.Ledger.{Version, Ledger, Outlook, outlook, unseen, dead,
 use Rattle.ledger.specs.Calls.{opened, reclaimed, stamped}
 use Rattle.ledger.specs.History.{Deed}
 use Rattle.ledger.proofs.Actives.{call_keeps}
-use Rattle.ledger.proofs.Steps.{Makes, resting, beginning, reading, setting, committing, ending, Course, kept}
+use Rattle.ledger.proofs.Steps.{Makes, resting, beginning, reading, setting, committing, ending, Course, step_keeps}
 use Rattle.ledger.proofs.Presence.{bare, bare_more}
 use Rattle.ledger.proofs.Outlooks.{Narrows, narrows_same, narrows_twice, outlook_opened, outlook_ended, outlook_changed, outlook_installed, unseen_same, unseen_later}
 
@@ -19,7 +19,7 @@ clear o all v = record { key = v.key; stamp = v.stamp; value = v.value; present 
 abbrev pub swept : Outlook → List Version → List Version
 swept o vs = map (clear o vs) vs
 
-pub bare_clear : (o : Outlook) (all vs : List Version) → bare (map (clear o all) vs) ≡ bare vs
+bare_clear : (o : Outlook) (all vs : List Version) → bare (map (clear o all) vs) ≡ bare vs
 bare_clear o all [] = refl
 bare_clear o all (v ∷ vs) = let u : Version = record { key = v.key; stamp = v.stamp; value = v.value; present = false } in ap (λ us. u ∷ us) (bare_clear o all vs)
 
@@ -31,7 +31,7 @@ pub bare_swept : (o : Outlook) (vs us : List Version) → swept o vs ≡ swept o
 bare_swept o vs us e = sym (bare_clear o vs vs) ∙ ap bare e ∙ bare_clear o us us
 
 -- to clear twice is to clear the second time, where that clears more
-pub clear_twice : (p s z : Bool) → (s ≡ true → z ≡ true) → ((p && not s) && not z) ≡ (p && not z)
+clear_twice : (p s z : Bool) → (s ≡ true → z ≡ true) → ((p && not s) && not z) ≡ (p && not z)
 clear_twice false s z h = refl
 clear_twice true false z h = refl
 clear_twice true true z h = rw (h refl)
@@ -66,7 +66,7 @@ pub record Ages (l m : Ledger) : Type 0 where
   pub bares : bare m.versions ≡ bare (news ++ l.versions)
   pub narrows : Narrows (outlook l) (outlook m)
 
-pub ages_alone : (l m : Ledger) → bare m.versions ≡ bare l.versions → Narrows (outlook l) (outlook m) → Ages l m
+ages_alone : (l m : Ledger) → bare m.versions ≡ bare l.versions → Narrows (outlook l) (outlook m) → Ages l m
 ages_alone l m e n = record { news = []; bares = e; narrows = n }
 
 ages_twice : (l k m : Ledger) → Ages l k → Ages k m → Ages l m
@@ -95,7 +95,7 @@ ages_made l m d (committing t f upd clear more room) = record { news = stamped (
 ages_made l m d (ending {h = h} t f) = ages_alone l m refl (outlook_ended l h)
 
 pub ages : {l m : Ledger} {d : Deed} → Course l d m → Ages l m
-ages {l = l} c = kept (Ages l) (λ k a. ages_twice l k (reclaimed k) a (ages_reclaimed k)) (λ k m d a s. ages_twice l k m a (ages_made k m d s)) (ages_alone l l refl (narrows_same refl)) c
+ages {l = l} c = step_keeps (Ages l) (λ k a. ages_twice l k (reclaimed k) a (ages_reclaimed k)) (λ k m d a s. ages_twice l k m a (ages_made k m d s)) (ages_alone l l refl (narrows_same refl)) c
 
 -- Counting: where every removed version is dead, the present ones are the live ones and those dead that are present
 

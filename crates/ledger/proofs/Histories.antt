@@ -9,9 +9,9 @@ use Rattle.ledger.specs.declared.Kind.{Kind}
 use Rattle.ledger.specs.declared.Kind.TheVariants.{Reader, Updater}
 use Rattle.ledger.specs.Ledger.{Limits, Ledger, outlook, newest_value}
 use Rattle.ledger.specs.Calls.{opened, seen, ended, reclaimed}
-use Rattle.ledger.specs.History.{Made, Deed, begins, ends, rests, after, Told, Operation, look, put, operations, operation_in, when, saw, seen_in, place_in, at_tick, stands_at}
+use Rattle.ledger.specs.History.{Made, Deed, begins, ends, rests, after, IsTold, Operation, read_range, write_key, operations, operation_in, when, saw, seen_in, standing_in, at_tick, stands_at}
 use Rattle.ledger.specs.Serial.{table, run, operations_of, run_reads}
-use Rattle.ledger.specs.Orderly.{Sound}
+use Rattle.ledger.specs.Orderly.{IsSound}
 use Rattle.ledger.proofs.Actives.{found_without, never}
 use Rattle.ledger.proofs.SoundActives.{sound_reclaimed, sound_made}
 use Rattle.ledger.proofs.Presence.{value_same, newest_same, granule_same}
@@ -19,7 +19,7 @@ use Rattle.ledger.proofs.Deaths.{clear, bare_reclaimed}
 use Rattle.ledger.proofs.Orders.{sound, reached, course_told}
 use Rattle.ledger.proofs.Steps.{as_is, after_reclaim, Makes, resting, beginning, reading, setting, committing, ending, Course, course}
 use Rattle.ledger.proofs.Stories.{Story, tab, operations_at, value_newest}
-use Rattle.ledger.proofs.Serials.{Inv, inv_less, placing, inv_begin, did, inv_read, inv_write, stood, inv_commit}
+use Rattle.ledger.proofs.Serials.{TellsStory, inv_less, placing, inv_begin, did, inv_read, inv_write, stood, inv_commit}
 
 story_same : (s z : Story) → ((h : ℕ) → s.operations h ≡ z.operations h) → ((h : ℕ) → s.saw h ≡ z.saw h) → ((t : ℕ) → s.stands t ≡ z.stands t) → s ≡ z
 story_same s z a b c =
@@ -27,8 +27,8 @@ story_same s z a b c =
     ap (λ p. mk p s.saw s.stands) (fun_ext a) ∙ ap (λ p. mk z.operations p s.stands) (fun_ext b) ∙ ap (λ p. mk z.operations z.saw p) (fun_ext c)
 
 -- the story with one deed more
-abbrev with_deed : Story → Deed → Story
-with_deed s d = record { operations = λ h. s.operations h ++ operation_in h d; saw = λ h. s.saw h ++ seen_in h d; stands = λ t. at_tick t (place_in d) (s.stands t) }
+abbrev story_with : Story → Deed → Story
+story_with s d = record { operations = λ h. s.operations h ++ operation_in h d; saw = λ h. s.saw h ++ seen_in h d; stands = λ t. at_tick t (standing_in d) (s.stands t) }
 
 abbrev pub story : List Made → Story
 story ms = record { operations = λ h. operations h ms; saw = λ h. saw h ms; stands = stands_at ms }
@@ -43,19 +43,19 @@ nil_cond true xs = refl
 nil_cond false xs = append-nil xs
 
 -- a deed that is no operation: only who stands where may change
-quiet_deed : (s : Story) (d : Deed) → ((h : ℕ) → operation_in h d ≡ []) → ((h : ℕ) → seen_in h d ≡ []) → placing s (λ t. at_tick t (place_in d) (s.stands t)) ≡ with_deed s d
-quiet_deed s d p q = story_same (placing s (λ t. at_tick t (place_in d) (s.stands t))) (with_deed s d)
+quiet_deed : (s : Story) (d : Deed) → ((h : ℕ) → operation_in h d ≡ []) → ((h : ℕ) → seen_in h d ≡ []) → placing s (λ t. at_tick t (standing_in d) (s.stands t)) ≡ story_with s d
+quiet_deed s d p q = story_same (placing s (λ t. at_tick t (standing_in d) (s.stands t))) (story_with s d)
     (λ h. sym (ap (λ xs. s.operations h ++ xs) (p h) ∙ append-nil (s.operations h)))
     (λ h. sym (ap (λ xs. s.saw h ++ xs) (q h) ∙ append-nil (s.saw h)))
     (λ t. refl)
 
-inv_reclaimed : (s : Story) (l : Ledger) → Inv s l → Inv s (reclaimed l)
+inv_reclaimed : (s : Story) (l : Ledger) → TellsStory s l → TellsStory s (reclaimed l)
 inv_reclaimed s l i =
     let b = sym (bare_reclaimed l) in
     let vs = (reclaimed l).versions in
     inv_less s l (reclaimed l) i (sound_reclaimed l i.fine) refl refl (λ h t f. f) (All-map _ (clear (outlook l) l.versions) l.versions i.stamps) (λ k t. value_same l.versions vs b k t) (λ k. newest_same l.versions vs b k) (λ k. granule_same l.versions vs b l.limits.granule k)
 
-begin_stands : (s : Story) (l : Ledger) → Inv s l → (k : Kind) → Sound (opened l k) → Inv (placing s (λ t. at_tick t (place_in (begins k (l.clock + 1))) (s.stands t))) (opened l k)
+begin_stands : (s : Story) (l : Ledger) → TellsStory s l → (k : Kind) → IsSound (opened l k) → TellsStory (placing s (λ t. at_tick t (standing_in (begins k (l.clock + 1))) (s.stands t))) (opened l k)
 begin_stands s l i Updater fine = inv_begin s l i Updater s.stands (λ t le. refl) (λ t lt. i.later t (omega arith)) (inl (i.later (suc l.clock) (omega arith))) fine
 begin_stands s l i Reader fine =
     inv_begin s l i Reader (λ t. cond (eqb (l.clock + 1) t) (Some (l.clock + 1)) (s.stands t))
@@ -63,31 +63,31 @@ begin_stands s l i Reader fine =
     (λ t lt. rw (ne_eqb (l.clock + 1) t (λ e. omega arith)) (i.later t (omega arith)))
     (inr (rw (eq-eqb (l.clock + 1) (suc l.clock) (omega arith)), refl)) fine
 
-retold : {s z : Story} {l : Ledger} → s ≡ z → Inv s l → Inv z l
-retold {l = l} e i = subst (λ x. Inv x l) e i
+retold : {s z : Story} {l : Ledger} → s ≡ z → TellsStory s l → TellsStory z l
+retold {l = l} e i = subst (λ x. TellsStory x l) e i
 
-inv_made : (s : Story) (l m : Ledger) (d : Deed) → Inv s l → Sound m → Makes l d m → Inv (with_deed s d) m
+inv_made : (s : Story) (l m : Ledger) (d : Deed) → TellsStory s l → IsSound m → Makes l d m → TellsStory (story_with s d) m
 inv_made s l m d i fine resting = retold (quiet_deed s rests (λ h. refl) (λ h. refl)) i
 inv_made s l m d i fine (beginning {kind = k} few more) = retold (quiet_deed s (begins k (l.clock + 1)) (λ h. refl) (λ h. refl)) (begin_stands s l i k fine)
 inv_made s l m d i fine (reading {h = g} {k = k} {n = n} t f inside room) =
     let vs = map (seen l t) (range_with_len k n) in
-    retold (story_same (did s g (look k n) (vs ∷ [])) (with_deed s d) (λ h. sym (push_cond (eqb g h) (s.operations h) (look k n))) (λ h. sym (push_cond (eqb g h) (s.saw h) vs)) (λ x. refl))
+    retold (story_same (did s g (read_range k n) (vs ∷ [])) (story_with s d) (λ h. sym (push_cond (eqb g h) (s.operations h) (read_range k n))) (λ h. sym (push_cond (eqb g h) (s.saw h) vs)) (λ x. refl))
     (inv_read s l i g t f k n fine)
 inv_made s l m d i fine (setting {h = g} {k = k} {x = x} t f upd inside room) =
-    retold (story_same (did s g (put k x) []) (with_deed s d) (λ h. sym (push_cond (eqb g h) (s.operations h) (put k x))) (λ h. sym (nil_cond (eqb g h) (s.saw h))) (λ y. refl))
+    retold (story_same (did s g (write_key k x) []) (story_with s d) (λ h. sym (push_cond (eqb g h) (s.operations h) (write_key k x))) (λ h. sym (nil_cond (eqb g h) (s.saw h))) (λ y. refl))
     (inv_write s l i g t f k x upd fine)
-inv_made s l m d i fine (committing {h = h} t f upd no_clash more room) = retold (quiet_deed (stood s (l.clock + 1) h) rests (λ g. refl) (λ g. refl)) (inv_commit s l i h t f upd no_clash fine)
+inv_made s l m d i fine (committing {h = h} t f upd none_stale more room) = retold (quiet_deed (stood s (l.clock + 1) h) rests (λ g. refl) (λ g. refl)) (inv_commit s l i h t f upd none_stale fine)
 inv_made s l m d i fine (ending {h = h} t f) =
     retold (quiet_deed s (ends h) (λ g. refl) (λ g. refl))
     (inv_less s l (ended l h) i fine refl refl (λ g t f. (found_without l.active h g t f).0) i.stamps (λ k t. refl) (λ k. refl) (λ k. refl))
 
-inv_course : (s : Story) {l m : Ledger} {d : Deed} → Inv s l → Course l d m → Inv (with_deed s d) m
+inv_course : (s : Story) {l m : Ledger} {d : Deed} → TellsStory s l → Course l d m → TellsStory (story_with s d) m
 inv_course s {l = l} {m = m} {d = d} i (course as_is makes) = inv_made s l m d i (sound_made l m d i.fine makes) makes
 inv_course s {l = l} {m = m} {d = d} i (course after_reclaim makes) =
     let j = inv_reclaimed s l i in
     inv_made s (reclaimed l) m d j (sound_made (reclaimed l) m d j.fine makes) makes
 
-pub inv : (n : Limits) (ms : List Made) → Told n ms → Inv (story ms) (after n ms)
+pub inv : (n : Limits) (ms : List Made) → IsTold n ms → TellsStory (story ms) (after n ms)
 inv n [] t = record {
   fine = sound (reached n []);
   stamps = tt;
@@ -113,17 +113,17 @@ starts_late st z zero h e = never h (st 0) z e
 starts_late st z (suc t) h e = omega arith
 
 -- who stands, stands at a tick that was drawn
-pub within : (n : Limits) (ms : List Made) → Told n ms → (t h : ℕ) → stands_at ms t ≡ Some h → (0 < t) × (t ≤ (after n ms).clock)
+pub within : (n : Limits) (ms : List Made) → IsTold n ms → (t h : ℕ) → stands_at ms t ≡ Some h → (0 < t) × (t ≤ (after n ms).clock)
 within n ms told t h e =
     let i = inv n ms told in
     (starts_late (stands_at ms) i.first t h e, ⊎_elim (λ lt. never h (stands_at ms t) (i.later t lt) e) (λ le. le) (cases_lt (after n ms).clock t))
 
 -- run alone in its place, each reads what it read
-pub run_alone : (n : Limits) (ms : List Made) → Told n ms → (t h : ℕ) → stands_at ms (suc t) ≡ Some h → run_reads (operations h ms) (table ms t) ≡ saw h ms
+pub run_alone : (n : Limits) (ms : List Made) → IsTold n ms → (t h : ℕ) → stands_at ms (suc t) ≡ Some h → run_reads (operations h ms) (table ms t) ≡ saw h ms
 run_alone n ms told t h e = ap (run_reads (operations h ms)) (table_is ms t) ∙ ((inv n ms told).placed t h e).same
 
 -- and together they leave the newest values
-pub leaves : (n : Limits) (ms : List Made) → Told n ms → (k : ℕ) → newest_value k (after n ms).versions ≡ table ms (after n ms).clock k
+pub leaves : (n : Limits) (ms : List Made) → IsTold n ms → (k : ℕ) → newest_value k (after n ms).versions ≡ table ms (after n ms).clock k
 leaves n ms told k =
     let i = inv n ms told in
     let l = after n ms in

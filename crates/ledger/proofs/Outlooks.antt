@@ -5,7 +5,7 @@ use Rattle.std.proofs.lemmas.Bool.{lt-ltb, ltb-true, and_parts, and_from, or_cas
 use Rattle.ledger.specs.declared.Kind.{Kind}
 use Rattle.ledger.specs.Ledger.{Transaction, Version, Ledger, Outlook, moment_of, found, is_reader, least_start, outlook, unseen}
 use Rattle.ledger.specs.Calls.{with_active, without, changed, opened, ended, installed}
-use Rattle.ledger.proofs.Actives.{Keeps, all_found, least_later, least_kept, least_le, least_each, least_changed}
+use Rattle.ledger.proofs.Actives.{KeepsIdentity, all_found, least_later, least_kept, least_le, least_each, least_changed}
 use Rattle.ledger.proofs.Presence.{bare}
 
 -- the second outlook looks at no moment that the first does not
@@ -33,7 +33,7 @@ outlook_opened l kind =
 pub outlook_ended : (l : Ledger) (h : ℕ) → Narrows (outlook l) (outlook (ended l h))
 outlook_ended l h = record { least = least_kept is_reader (λ t. not (eqb t.start h)) (l.clock + 1) l.active }
 
-pub outlook_changed : (l : Ledger) (h : ℕ) (f : Transaction → Transaction) → Keeps f → outlook (with_active l (changed l.active h f)) ≡ outlook l
+pub outlook_changed : (l : Ledger) (h : ℕ) (f : Transaction → Transaction) → KeepsIdentity f → outlook (with_active l (changed l.active h f)) ≡ outlook l
 outlook_changed l h f k = least_changed is_reader (l.clock + 1) l.active h f k
 
 pub outlook_installed : (l : Ledger) (t : Transaction) → Narrows (outlook l) (outlook (installed l t))

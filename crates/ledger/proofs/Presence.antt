@@ -5,7 +5,7 @@ use Rattle.std.specs.List.{find}
 use Rattle.std.specs.Option.{option_map}
 use Rattle.std.proofs.lemmas.List.{map-append}
 use Rattle.ledger.specs.Ledger.{Version, value_below, newest_value}
-use Rattle.ledger.specs.Calls.{granule_stamp, Clash, clash_among}
+use Rattle.ledger.specs.Calls.{granule_stamp, StaleRead, stale_read_among}
 use Rattle.ledger.specs.Laws.{newest_below}
 
 -- the versions but for what is present
@@ -28,8 +28,8 @@ granule_bare : (g : ℕ → ℕ) (k : ℕ) (vs : List Version) → granule_stamp
 granule_bare g k [] = refl
 granule_bare g k (v ∷ vs) = ap (λ n. cond (eqb (g v.key) (g k)) (max v.stamp n) n) (granule_bare g k vs)
 
-abbrev pub the_clash : ℕ → ℕ → Clash
-the_clash k s = record { key = k; stamp = s }
+abbrev pub stale_read_at : ℕ → ℕ → StaleRead
+stale_read_at k s = record { key = k; stamp = s }
 
 -- what does not look at the presence is the same of versions that are alike
 module _ (vs us : List Version) (e : bare vs ≡ bare us) where
@@ -45,8 +45,8 @@ module _ (vs us : List Version) (e : bare vs ≡ bare us) where
   pub granule_same : (g : ℕ → ℕ) (k : ℕ) → granule_stamp g k vs ≡ granule_stamp g k us
   granule_same g k = sym (granule_bare g k vs) ∙ ap (granule_stamp g k) e ∙ granule_bare g k us
 
-  pub clash_same : (g : ℕ → ℕ) (s : ℕ) (ks : List ℕ) → clash_among g vs s ks ≡ clash_among g us s ks
-  clash_same g s ks = ap (λ (st : ℕ → ℕ). option_map (λ k. the_clash k (st k)) (find (λ k. ltb s (st k)) ks)) (fun_ext (granule_same g))
+  pub stale_read_same : (g : ℕ → ℕ) (s : ℕ) (ks : List ℕ) → stale_read_among g vs s ks ≡ stale_read_among g us s ks
+  stale_read_same g s ks = ap (λ (st : ℕ → ℕ). option_map (λ k. stale_read_at k (st k)) (find (λ k. ltb s (st k)) ks)) (fun_ext (granule_same g))
 
   pub bare_more : (news : List Version) → bare (news ++ vs) ≡ bare (news ++ us)
   bare_more news = map-append _ news vs ∙ ap (λ xs. bare news ++ xs) e ∙ sym (map-append _ news us)

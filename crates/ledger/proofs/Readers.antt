@@ -1,21 +1,21 @@
 -- What a reader is shown.
 use Rattle.std.proofs.Common.{◌≡◌, ℕ, suc, ◌+◌, ◌-◌, true, false, List, ◌∷◌, ◌++◌, map, length, drop, Some, None, Ok, Err, Option, Result, sym, refl, ap, ◌∙◌, arith}
 use Rattle.std.specs.List.{range_with_len}
+use Rattle.refusals.specs.Results.{result_map}
 use mathlib.Core.Path.{fun_ext}
-use Rattle.std.specs.Result.{result_map_both}
 use Rattle.std.proofs.lemmas.Bool.{not-false}
 use Rattle.ledger.specs.declared.Kind.TheVariants.{Reader}
 use Rattle.ledger.specs.declared.Call.{Call}
 use Rattle.ledger.specs.declared.Done.{Done}
 use Rattle.ledger.specs.declared.Fault.{Fault}
 use Rattle.ledger.specs.Ledger.{Limits, Transaction, Ledger, found, is_reader, value_below}
-use Rattle.ledger.specs.Calls.{Effect, checked, maker, by_handle, transaction_check, begin_check, begin_effect, read_effect, step, opened, seen}
-use Rattle.ledger.specs.History.{Made, after, Told, updater_in}
+use Rattle.ledger.specs.Calls.{Effect, maker, by_handle, transaction_check, begin_check, begin_effect, read_effect, step, opened, seen}
+use Rattle.ledger.specs.History.{Made, after, IsTold, updater_in}
 use Rattle.ledger.specs.Serial.{table}
-use Rattle.ledger.specs.Orderly.{Fine}
 use Rattle.ledger.specs.Laws.{MomentLaw, read_now}
-use Rattle.ledger.proofs.Actives.{all_found}
+use Rattle.ledger.proofs.SoundActives.{well_formed_found}
 use Rattle.ledger.proofs.Histories.{inv, table_is}
+use Rattle.ledger.proofs.Steps.{checked}
 use Rattle.ledger.proofs.Restarts.{tells}
 
 -- a call that is accepted has passed its check, and has its effect
@@ -33,11 +33,11 @@ read_by_one l b h k c e =
     by_found None t q = cc
     by_found (Some u) t q = ap Some (same (transaction_check l.limits.keys (length b) u (Call.Read h k c)) q)
       where
-        same : (r : Result (Unit {0}) Fault) → result_map_both (λ _. u) (λ f. f) r ≡ Ok t → u ≡ t
+        same : (r : Result (Unit {0}) Fault) → result_map (λ _. u) r ≡ Ok t → u ≡ t
         same (Ok x) q = cc
         same (Err f) q = cc
 
-module _ (n : Limits) (ms : List Made) (told : Told n ms) where
+module _ (n : Limits) (ms : List Made) (told : IsTold n ms) where
   module _ (h : ℕ) (t : Transaction) (f : found (after n ms).active h ≡ Some t) (reader : updater_in h ms ≡ false) where
     reads_only : is_reader t.kind ≡ true
     reads_only = not-false (is_reader t.kind) (sym ((tells n ms told).active h t f).kind ∙ reader)
@@ -46,9 +46,9 @@ module _ (n : Limits) (ms : List Made) (told : Told n ms) where
     seen_before : (j : ℕ) → seen (after n ms) t j ≡ table ms (h - 1) j
     seen_before j =
         let i = inv n ms told in
-        let p = all_found (Fine (after n ms).limits (after n ms).clock) (after n ms).active h t i.fine.fine f in
-        let start : t.start ≡ suc (h - 1) = omega (arith, p.0.late, p.1) in
-        rw reads_only (ap (λ x. value_below j x (after n ms).versions) start ∙ i.value (h - 1) j (omega (arith, p.0.by, p.1)) ∙ ap (λ v. v j) (sym (table_is ms (h - 1))))
+        let p = well_formed_found i.fine h t f in
+        let start : t.start ≡ suc (h - 1) = omega (arith, p.0.above_zero, p.1) in
+        rw reads_only (ap (λ x. value_below j x (after n ms).versions) start ∙ i.value (h - 1) j (omega (arith, p.0.drawn, p.1)) ∙ ap (λ v. v j) (sym (table_is ms (h - 1))))
 
 pub moment : MomentLaw
 moment n ms h k c b b' told reader =
@@ -68,7 +68,7 @@ begun_by_one l b h e =
     tick q = cc
 
 -- a reader that begins now is shown the table as it is
-pub shown_now : (n : Limits) (ms : List Made) (h k c : ℕ) (b b' d d' : List ℕ) → Told n (read_now h k c b b' ∷ (record { call = Call.Begin Reader; given = d; answer = Ok (Done.Began h); left = d' }) ∷ ms) → b' ≡ map (table ms (after n ms).clock) (range_with_len k c) ++ drop c b
+pub shown_now : (n : Limits) (ms : List Made) (h k c : ℕ) (b b' d d' : List ℕ) → IsTold n (read_now h k c b b' ∷ (record { call = Call.Begin Reader; given = d; answer = Ok (Done.Began h); left = d' }) ∷ ms) → b' ≡ map (table ms (after n ms).clock) (range_with_len k c) ++ drop c b
 shown_now n ms h k c b b' d d' told =
     let begin : Made = record { call = Call.Begin Reader; given = d; answer = Ok (Done.Began h); left = d' } in
     let l = after n ms in

@@ -2,11 +2,12 @@
 use Rattle.std.proofs.Common.{◌≡◌, ℕ, ◌+◌, ◌-◌, ◌<◌, ◌≤◌, Bool, true, false, cond, not, ◌&&◌, ltb, leb, List, ◌++◌, map, length, take, drop, Some, None, Option, Result, sym, refl, subst}
 use Rattle.std.specs.List.{range_with_len}
 use Rattle.std.specs.Option.{is_some}
-use Rattle.std.specs.Result.{result_and, result_map_both}
+use Rattle.std.specs.Result.{result_and}
+use Rattle.refusals.specs.Results.{result_map}
 use Rattle.std.proofs.lemmas.List.{take_at}
 use Rattle.std.proofs.lemmas.List.FromFn.{length-map-range_with_len}
 use Rattle.std.proofs.lemmas.Bool.{leb-false, ltb-false, leb-true, not-false, le-ltb}
-use Rattle.ledger.specs.declared.TheConstants.{MAX_ACTIVE, MAX_READS}
+use Rattle.ledger.specs.declared.TheConstants.{MAX_ACTIVE}
 use Rattle.ledger.specs.declared.Kind.{Kind}
 use Rattle.ledger.specs.declared.Kind.TheVariants.{Reader, Updater}
 use Rattle.ledger.specs.declared.Fault.{Fault}
@@ -14,7 +15,7 @@ use Rattle.ledger.specs.declared.Verdict.{Verdict}
 use Rattle.ledger.specs.declared.Call.{Call}
 use Rattle.ledger.specs.declared.Done.{Done}
 use Rattle.ledger.specs.Ledger.{Transaction, Ledger, Shortage, handle_of, found, is_reader, present_count, shortage}
-use Rattle.ledger.specs.Calls.{Outcome, Effect, accepted, checked, Clash, maker, join_check, in_table, joins, no_room, out_of_ticks, opened, seen, with_call, begin_effect, read_effect, write_effect, abort_effect, reclaimed, clash, shortage_in, full_or_committed, verdict_after, left_by, is_judged, judged, commit_effect, ended, installed, step}
+use Rattle.ledger.specs.Calls.{outcome, Outcome, Effect, accepted, StaleRead, maker, join_check, in_table, joins, read_list_full, write_list_full, out_of_ticks, opened, seen, with_call, begin_effect, read_effect, write_effect, abort_effect, reclaimed, stale_read, shortage_in, full_or_committed, verdict_after, left_by, is_judged, judged, commit_effect, ended, installed, step}
 use Rattle.ledger.specs.History.{Deed, begins, reads, sets, commits, ends, rests, commit_deed, deed_of}
 use Rattle.ledger.proofs.Actives.{found_start}
 
@@ -27,9 +28,9 @@ pub data OrReclaimed (l : Ledger) : Ledger → Type 0 where
 pub data Makes (l : Ledger) : Deed → Ledger → Type 0 where
   resting : Makes l rests l
   beginning : {kind : Kind} → length l.active < MAX_ACTIVE → l.clock < l.limits.last → Makes l (begins kind (l.clock + 1)) (opened l kind)
-  reading : {h k n : ℕ} (t : Transaction) → found l.active h ≡ Some t → k + n ≤ l.limits.keys → (joins t k n && leb MAX_READS (length t.reads)) ≡ false → Makes l (reads h k n (map (seen l t) (range_with_len k n))) (with_call l h (Call.Read h k n))
-  setting : {h k x : ℕ} (t : Transaction) → found l.active h ≡ Some t → is_reader t.kind ≡ false → k + 1 ≤ l.limits.keys → no_room t.writes k ≡ false → Makes l (sets h k x) (with_call l h (Call.Write h k x))
-  committing : {h : ℕ} (t : Transaction) → found l.active h ≡ Some t → is_reader t.kind ≡ false → clash l t ≡ None → l.clock < l.limits.last → length t.writes ≤ l.limits.cells - present_count l → Makes l (commits h (l.clock + 1)) (installed l t)
+  reading : {h k n : ℕ} (t : Transaction) → found l.active h ≡ Some t → k + n ≤ l.limits.keys → (joins t n && read_list_full t.reads k n) ≡ false → Makes l (reads h k n (map (seen l t) (range_with_len k n))) (with_call l h (Call.Read h k n))
+  setting : {h k x : ℕ} (t : Transaction) → found l.active h ≡ Some t → is_reader t.kind ≡ false → k + 1 ≤ l.limits.keys → write_list_full t.writes k ≡ false → Makes l (sets h k x) (with_call l h (Call.Write h k x))
+  committing : {h : ℕ} (t : Transaction) → found l.active h ≡ Some t → is_reader t.kind ≡ false → stale_read l t ≡ None → l.clock < l.limits.last → length t.writes ≤ l.limits.cells - present_count l → Makes l (commits h (l.clock + 1)) (installed l t)
   ending : {h : ℕ} (t : Transaction) → found l.active h ≡ Some t → Makes l (ends h) (ended l h)
 
 -- from l to m by a deed, perhaps after a reclaim
@@ -37,9 +38,13 @@ pub data Course (l : Ledger) (d : Deed) (m : Ledger) : Type 0 where
   course : {k : Ledger} → OrReclaimed l k → Makes k d m → Course l d m
 
 -- what each reclaim keeps and each deed keeps, a step keeps
-pub kept : (P : Ledger → Type 0) → ((l : Ledger) → P l → P (reclaimed l)) → ((l m : Ledger) (d : Deed) → P l → Makes l d m → P m) → {l m : Ledger} {d : Deed} → P l → Course l d m → P m
-kept P by_reclaim by_deed {l = l} {m = m} {d = d} p (course as_is makes) = by_deed l m d p makes
-kept P by_reclaim by_deed {l = l} {m = m} {d = d} p (course after_reclaim makes) = by_deed (reclaimed l) m d (by_reclaim l p) makes
+pub step_keeps : (P : Ledger → Type 0) → ((l : Ledger) → P l → P (reclaimed l)) → ((l m : Ledger) (d : Deed) → P l → Makes l d m → P m) → {l m : Ledger} {d : Deed} → P l → Course l d m → P m
+step_keeps P by_reclaim by_deed {l = l} {m = m} {d = d} p (course as_is makes) = by_deed l m d p makes
+step_keeps P by_reclaim by_deed {l = l} {m = m} {d = d} p (course after_reclaim makes) = by_deed (reclaimed l) m d (by_reclaim l p) makes
+
+-- a call that is refused by a check, or has its effect
+abbrev pub checked : {X : Type 0} → Ledger → List ℕ → Result X Fault → (X → Effect) → Outcome
+checked l b r effect = outcome l b (result_map effect r)
 
 -- Each call has a course
 
@@ -58,20 +63,20 @@ front f k n b = take_at (map f (range_with_len k n)) (drop n b) n (length-map-ra
 course_read : (l : Ledger) (b : List ℕ) (h k n : ℕ) (o : Option Transaction) → found l.active h ≡ o → Goes l (Call.Read h k n) (checked l b (maker l.limits.keys (length b) h (Call.Read h k n) o) (read_effect l b h k n))
 course_read l b h k n None e = course as_is resting
 course_read l b h k n (Some t) e =
-    let G : Result (Unit {0}) Fault → Type 0 = λ r. Goes l (Call.Read h k n) (checked l b (result_map_both (λ _. t) (λ f. f) r) (read_effect l b h k n)) in
+    let G : Result (Unit {0}) Fault → Type 0 = λ r. Goes l (Call.Read h k n) (checked l b (result_map (λ _. t) r) (read_effect l b h k n)) in
     let H : Result (Unit {0}) Fault → Type 0 = λ r. G (result_and r (join_check t k n)) in
     tested H (not (in_table l.limits.keys k n)) (λ _. course as_is resting) (λ p.
     tested H (ltb (length b) n) (λ _. course as_is resting) (λ q.
-    tested G (joins t k n && leb MAX_READS (length t.reads)) (λ _. course as_is resting) (λ r.
+    tested G (joins t n && read_list_full t.reads k n) (λ _. course as_is resting) (λ r.
     subst (λ vs. Course l (reads h k n vs) (with_call l h (Call.Read h k n))) (sym (front (seen l t) k n b)) (course as_is (reading t e (leb-true _ _ (not-false _ p)) r)))))
 
 course_write : (l : Ledger) (b : List ℕ) (h k x : ℕ) (o : Option Transaction) → found l.active h ≡ o → Goes l (Call.Write h k x) (checked l b (maker l.limits.keys (length b) h (Call.Write h k x) o) (λ _. write_effect l b h k x))
 course_write l b h k x None e = course as_is resting
 course_write l b h k x (Some t) e =
-    let G : Result (Unit {0}) Fault → Type 0 = λ r. Goes l (Call.Write h k x) (checked l b (result_map_both (λ _. t) (λ f. f) r) (λ _. write_effect l b h k x)) in
+    let G : Result (Unit {0}) Fault → Type 0 = λ r. Goes l (Call.Write h k x) (checked l b (result_map (λ _. t) r) (λ _. write_effect l b h k x)) in
     tested G (is_reader t.kind) (λ _. course as_is resting) (λ p.
     tested G (not (in_table l.limits.keys k 1)) (λ _. course as_is resting) (λ q.
-    tested G (no_room t.writes k) (λ _. course as_is resting) (λ r.
+    tested G (write_list_full t.writes k) (λ _. course as_is resting) (λ r.
     course as_is (setting t e p (leb-true _ _ (not-false _ q)) r))))
 
 -- without a shortage the writes have cells
@@ -93,22 +98,22 @@ not_short cells taken n e = enough cells taken n (none (shortage cells taken n) 
     none (Some s) q = cc
 
 module _ (l m : Ledger) (w : OrReclaimed l m) (h : ℕ) (t : Transaction) (f : found m.active h ≡ Some t) (upd : is_reader t.kind ≡ false) where
-  abbrev Leads : Verdict → Type 0
-  Leads v = Course l (commit_deed h (Done.Ended v)) (left_by m t v)
+  abbrev EndsBy : Verdict → Type 0
+  EndsBy v = Course l (commit_deed h (Done.Ended v)) (left_by m t v)
 
   lost : Course l (ends h) (ended m (handle_of t))
   lost = subst (λ x. Course l (ends h) (ended m x)) (sym (found_start m.active h t f)) (course w (ending t f))
 
-  cells_told : clash m t ≡ None → m.clock < m.limits.last → (s : Option Shortage) → shortage_in m (length t.writes) ≡ s → Leads (full_or_committed m s)
+  cells_told : stale_read m t ≡ None → m.clock < m.limits.last → (s : Option Shortage) → shortage_in m (length t.writes) ≡ s → EndsBy (full_or_committed m s)
   cells_told clear more (Some s) e = lost
   cells_told clear more None e = course w (committing t f upd clear more (enough m.limits.cells (present_count m) (length t.writes) e))
 
-  course_judged : (o : Option Clash) → clash m t ≡ o → Leads (verdict_after m t o)
+  course_judged : (o : Option StaleRead) → stale_read m t ≡ o → EndsBy (verdict_after m t o)
   course_judged (Some c) e = lost
-  course_judged None e = tested Leads (out_of_ticks m.clock m.limits.last) (λ _. lost) (λ p. cells_told e (leb-false _ _ p) (shortage_in m (length t.writes)) refl)
+  course_judged None e = tested EndsBy (out_of_ticks m.clock m.limits.last) (λ _. lost) (λ p. cells_told e (leb-false _ _ p) (shortage_in m (length t.writes)) refl)
 
 -- only an updater is judged
-pub judged_updater : (kind : Kind) (h : ℕ) → is_judged kind (Call.Commit h) ≡ true → is_reader kind ≡ false
+judged_updater : (kind : Kind) (h : ℕ) → is_judged kind (Call.Commit h) ≡ true → is_reader kind ≡ false
 judged_updater Reader h e = cc
 judged_updater Updater h e = refl
 
@@ -118,8 +123,8 @@ course_commit l b h (Some t) e =
     tested (λ (x : Effect). Goes l (Call.Commit h) (accepted x)) (is_judged t.kind (Call.Commit h)) (λ q.
     let upd = judged_updater t.kind h q in
     tested (λ m. Goes l (Call.Commit h) (accepted (judged m b t))) (is_some (shortage_in l (length t.writes)))
-    (λ _. course_judged l (reclaimed l) after_reclaim h t e upd (clash (reclaimed l) t) refl)
-    (λ _. course_judged l l as_is h t e upd (clash l t) refl))
+    (λ _. course_judged l (reclaimed l) after_reclaim h t e upd (stale_read (reclaimed l) t) refl)
+    (λ _. course_judged l l as_is h t e upd (stale_read l t) refl))
     (λ _. course as_is (ending t e))
 
 course_abort : (l : Ledger) (b : List ℕ) (h : ℕ) (o : Option Transaction) → found l.active h ≡ o → Goes l (Call.Abort h) (checked l b (maker l.limits.keys (length b) h (Call.Abort h) o) (λ _. abort_effect l b h))

@@ -4,11 +4,11 @@ use Rattle.std.specs.List.{AllByRecursion, find}
 use Rattle.std.specs.Option.{option_map}
 use Rattle.std.proofs.lemmas.List.{append-nil, append_assoc}
 use Rattle.std.proofs.lemmas.Bool.{ltb-false, le-ltb, lt-ltb, eqb-true, eqb-false}
-use Rattle.ledger.specs.declared.Write.{Write as Entry}
+use Rattle.ledger.specs.declared.Write.{Write}
 use Rattle.ledger.specs.Ledger.{Version, value_below, newest_value, own_write, written}
-use Rattle.ledger.specs.Calls.{granule_stamp, clash_among, stamped}
+use Rattle.ledger.specs.Calls.{granule_stamp, stale_read_among, stamped}
 use Rattle.ledger.specs.History.{Operation}
-use Rattle.ledger.proofs.Presence.{the_clash}
+use Rattle.ledger.proofs.Presence.{stale_read_at}
 use Rattle.ledger.specs.Serial.{Table, applied, run, values_in, run_reads}
 
 pub record Story : Type 0 where
@@ -48,7 +48,7 @@ value_newest k c t (v ∷ vs) a lt = go (eqb v.key k) (lt-ltb v.stamp t (omega (
     go false e ih = ih
 
 -- the versions of a commit at c, to one who look below an earlier tick, and to one who look below a later tick
-pub value_before : (k c t : ℕ) (ws : List Entry) (vs : List Version) → t ≤ c → value_below k t (stamped c ws ++ vs) ≡ value_below k t vs
+pub value_before : (k c t : ℕ) (ws : List Write) (vs : List Version) → t ≤ c → value_below k t (stamped c ws ++ vs) ≡ value_below k t vs
 value_before k c t [] vs le = refl
 value_before k c t (w ∷ ws) vs le = go (eqb w.key k) (le-ltb c t le) (value_before k c t ws vs le)
   where
@@ -56,16 +56,16 @@ value_before k c t (w ∷ ws) vs le = go (eqb w.key k) (le-ltb c t le) (value_be
     go true e ih = rw e ih
     go false e ih = ih
 
-pub value_after : (k c t : ℕ) (ws : List Entry) (vs : List Version) → c < t → value_below k t (stamped c ws ++ vs) ≡ unwrap_or (own_write k ws) (value_below k t vs)
+pub value_after : (k c t : ℕ) (ws : List Write) (vs : List Version) → c < t → value_below k t (stamped c ws ++ vs) ≡ unwrap_or (own_write k ws) (value_below k t vs)
 value_after k c t [] vs lt = refl
 value_after k c t (w ∷ ws) vs lt = go (eqb w.key k) (lt-ltb c t lt) (value_after k c t ws vs lt)
   where
-    go : (b : Bool) → ltb c t ≡ true → value_below k t (stamped c ws ++ vs) ≡ unwrap_or (own_write k ws) (value_below k t vs) → cond (b && ltb c t) w.value (value_below k t (stamped c ws ++ vs)) ≡ unwrap_or (option_map (λ (v : Entry). v.value) (cond b (Some w) (find (λ v. eqb v.key k) ws))) (value_below k t vs)
+    go : (b : Bool) → ltb c t ≡ true → value_below k t (stamped c ws ++ vs) ≡ unwrap_or (own_write k ws) (value_below k t vs) → cond (b && ltb c t) w.value (value_below k t (stamped c ws ++ vs)) ≡ unwrap_or (option_map (λ (v : Write). v.value) (cond b (Some w) (find (λ v. eqb v.key k) ws))) (value_below k t vs)
     go true e ih = rw e
     go false e ih = ih
 
 -- a granule not written after h has the newest values that it had
-pub granule_kept : (g : ℕ → ℕ) (k c h : ℕ) (ws : List Entry) (vs : List Version) → h < c → granule_stamp g k (stamped c ws ++ vs) ≤ h → (newest_value k (stamped c ws ++ vs) ≡ newest_value k vs) × (granule_stamp g k vs ≤ h)
+pub granule_kept : (g : ℕ → ℕ) (k c h : ℕ) (ws : List Write) (vs : List Version) → h < c → granule_stamp g k (stamped c ws ++ vs) ≤ h → (newest_value k (stamped c ws ++ vs) ≡ newest_value k vs) × (granule_stamp g k vs ≤ h)
 granule_kept g k c h [] vs lt le = (refl, le)
 granule_kept g k c h (w ∷ ws) vs lt le = go (eqb (g w.key) (g k)) (eqb w.key k) refl refl le (granule_kept g k c h ws vs lt)
   where
@@ -74,23 +74,23 @@ granule_kept g k c h (w ∷ ws) vs lt le = go (eqb (g w.key) (g k)) (eqb w.key k
     go false true d e q ih = absurd (eqb-false (g w.key) (g k) d (ap g (eqb-true w.key k e)))
     go false false d e q ih = ih q
 
-pub no_clash : (g : ℕ → ℕ) (vs : List Version) (s : ℕ) (ks : List ℕ) → clash_among g vs s ks ≡ None → AllByRecursion (λ k. granule_stamp g k vs ≤ s) ks
-no_clash g vs s [] e = tt
-no_clash g vs s (k ∷ ks) e = go (ltb s (granule_stamp g k vs)) refl e (no_clash g vs s ks)
+pub none_stale : (g : ℕ → ℕ) (vs : List Version) (s : ℕ) (ks : List ℕ) → stale_read_among g vs s ks ≡ None → AllByRecursion (λ k. granule_stamp g k vs ≤ s) ks
+none_stale g vs s [] e = tt
+none_stale g vs s (k ∷ ks) e = go (ltb s (granule_stamp g k vs)) refl e (none_stale g vs s ks)
   where
-    go : (b : Bool) → ltb s (granule_stamp g k vs) ≡ b → option_map (λ (j : ℕ). the_clash j (granule_stamp g j vs)) (cond b (Some k) (find (λ j. ltb s (granule_stamp g j vs)) ks)) ≡ None → (clash_among g vs s ks ≡ None → AllByRecursion (λ j. granule_stamp g j vs ≤ s) ks) → (granule_stamp g k vs ≤ s) × AllByRecursion (λ j. granule_stamp g j vs ≤ s) ks
+    go : (b : Bool) → ltb s (granule_stamp g k vs) ≡ b → option_map (λ (j : ℕ). stale_read_at j (granule_stamp g j vs)) (cond b (Some k) (find (λ j. ltb s (granule_stamp g j vs)) ks)) ≡ None → (stale_read_among g vs s ks ≡ None → AllByRecursion (λ j. granule_stamp g j vs ≤ s) ks) → (granule_stamp g k vs ≤ s) × AllByRecursion (λ j. granule_stamp g j vs ≤ s) ks
     go true d q ih = cc
     go false d q ih = (ltb-false s (granule_stamp g k vs) d, ih q)
 
-pub own_written : (j k x : ℕ) (ws : List Entry) → own_write j (written ws k x) ≡ cond (eqb k j) (Some x) (own_write j ws)
+pub own_written : (j k x : ℕ) (ws : List Write) → own_write j (written ws k x) ≡ cond (eqb k j) (Some x) (own_write j ws)
 own_written j k x [] = go (eqb k j)
   where
-    go : (b : Bool) → option_map (λ (v : Entry). v.value) (cond b (Some (record { key = k; value = x })) None) ≡ cond b (Some x) None
+    go : (b : Bool) → option_map (λ (v : Write). v.value) (cond b (Some (record { key = k; value = x })) None) ≡ cond b (Some x) None
     go true = refl
     go false = refl
 own_written j k x (w ∷ ws) = go (eqb w.key k) (eqb w.key j) (eqb k j) refl refl refl (own_written j k x ws)
   where
-    go : (a b c : Bool) → eqb w.key k ≡ a → eqb w.key j ≡ b → eqb k j ≡ c → own_write j (written ws k x) ≡ cond (eqb k j) (Some x) (own_write j ws) → own_write j (cond a (record { key = k; value = x } ∷ ws) (w ∷ written ws k x)) ≡ cond (eqb k j) (Some x) (option_map (λ (v : Entry). v.value) (cond (eqb w.key j) (Some w) (find (λ v. eqb v.key j) ws)))
+    go : (a b c : Bool) → eqb w.key k ≡ a → eqb w.key j ≡ b → eqb k j ≡ c → own_write j (written ws k x) ≡ cond (eqb k j) (Some x) (own_write j ws) → own_write j (cond a (record { key = k; value = x } ∷ ws) (w ∷ written ws k x)) ≡ cond (eqb k j) (Some x) (option_map (λ (v : Write). v.value) (cond (eqb w.key j) (Some w) (find (λ v. eqb v.key j) ws)))
     go true b true d e f ih = rw f
     go true true false d e f ih = absurd (eqb-false k j f (sym (eqb-true w.key k d) ∙ eqb-true w.key j e))
     go true false false d e f ih = rw (f, e)

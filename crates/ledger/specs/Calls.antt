@@ -2,12 +2,13 @@
 use Rattle.std.specs.Prelude.{ℕ, ◌+◌, max, Bool, true, false, if◌then◌else◌, not, ◌&&◌, List, [], ◌∷◌, ◌++◌, map, length, drop, Some, None, filter, Option, Ok, Err, Result, ◌==◌, nat_le, nat_lt}
 use Rattle.std.specs.List.{find, list_any, range_with_len}
 use Rattle.std.specs.Option.{is_some, option_map, unwrap_or}
-use Rattle.std.specs.Result.{result_and, result_map_both}
+use Rattle.std.specs.Result.{result_and}
+use Rattle.refusals.specs.Results.{result_map}
 use Rattle.ledger.specs.declared.TheConstants.{MAX_ACTIVE, MAX_READS, MAX_WRITES}
 use Rattle.ledger.specs.declared.Kind.{Kind}
 use Rattle.ledger.specs.declared.Kind.TheVariants.{Updater}
 use Rattle.ledger.specs.declared.Range.{Range}
-use Rattle.ledger.specs.declared.Write.{Write as Entry}
+use Rattle.ledger.specs.declared.Write.{Write}
 use Rattle.ledger.specs.declared.Fault.{Fault}
 use Rattle.ledger.specs.declared.Fault.TheVariants.{KeyOutside, ShortBuffer, NoTransaction, ReaderWrites, TooManyActive, ClockSpent, ReadListFull, WriteListFull}
 use Rattle.ledger.specs.declared.Verdict.{Verdict}
@@ -42,13 +43,6 @@ abbrev pub outcome : Ledger → List ℕ → Result Effect Fault → Outcome
 outcome l b (Ok e) = accepted e
 outcome l b (Err f) = refused l b f
 
--- a call that passes its check has the effect of what the check gives
-abbrev pub if_passed : {X : Type 0} → Result X Fault → (X → Effect) → Result Effect Fault
-if_passed r effect = result_map_both effect (λ f. f) r
-
-abbrev pub checked : {X : Type 0} → Ledger → List ℕ → Result X Fault → (X → Effect) → Outcome
-checked l b r effect = outcome l b (if_passed r effect)
-
 -- Transactions
 
 -- the ledger with other active transactions
@@ -67,13 +61,17 @@ changed ts h f = map (λ u. if handle_of u == h then f u else u) ts
 abbrev pub same_range : ℕ → ℕ → Range → Bool
 same_range k n r = r.first == k && r.count == n
 
--- only an updater's range of at least one key joins its read list, unless that same range is there
-abbrev pub joins : Transaction → ℕ → ℕ → Bool
-joins t k n = not (is_reader t.kind) && (nat_lt 0 n && not (list_any (same_range k n) t.reads))
+-- a read list that has the range, once
+abbrev pub with_range : List Range → ℕ → ℕ → List Range
+with_range rs k n = if list_any (same_range k n) rs then rs else (rs ++ (record { first = k; count = n } ∷ []))
+
+-- only an updater's range of at least one key joins its read list
+abbrev pub joins : Transaction → ℕ → Bool
+joins t n = not (is_reader t.kind) && nat_lt 0 n
 
 -- the transaction once its read list has the range, if it joins
 abbrev pub joined : Transaction → ℕ → ℕ → Transaction
-joined t k n = if joins t k n then record t { reads = t.reads ++ (record { first = k; count = n } ∷ []) } else t
+joined t k n = if joins t n then record t { reads = with_range t.reads k n } else t
 
 -- the transaction with the write in its list
 abbrev pub wrote : Transaction → ℕ → ℕ → Transaction
@@ -95,9 +93,13 @@ out_of_ticks clock last = nat_le last clock
 abbrev pub in_table : ℕ → ℕ → ℕ → Bool
 in_table keys k n = nat_le (k + n) keys
 
+-- a range that is new to a full read list
+abbrev pub read_list_full : List Range → ℕ → ℕ → Bool
+read_list_full rs k n = not (list_any (same_range k n) rs) && nat_le MAX_READS (length rs)
+
 -- a key that is new to a full write list
-abbrev pub no_room : List Entry → ℕ → Bool
-no_room ws k = not (is_some (own_write k ws)) && nat_le MAX_WRITES (length ws)
+abbrev pub write_list_full : List Write → ℕ → Bool
+write_list_full ws k = not (is_some (own_write k ws)) && nat_le MAX_WRITES (length ws)
 
 -- where so many are active: as many as may be are, then a spent clock
 abbrev pub begin_check : ℕ → ℕ → ℕ → Result (Unit {0}) Fault
@@ -115,7 +117,7 @@ range_check keys room k n =
 
 -- the same range, for the read list of t
 abbrev pub join_check : Transaction → ℕ → ℕ → Result (Unit {0}) Fault
-join_check t k n = if joins t k n && nat_le MAX_READS (length t.reads) then Err (ReadListFull (handle_of t)) else Ok tt
+join_check t k n = if joins t n && read_list_full t.reads k n then Err (ReadListFull (handle_of t)) else Ok tt
 
 -- a read by t: both, in this order
 abbrev pub read_check : ℕ → ℕ → Transaction → ℕ → ℕ → Result (Unit {0}) Fault
@@ -126,7 +128,7 @@ abbrev pub write_check : ℕ → Transaction → ℕ → Result (Unit {0}) Fault
 write_check keys t k =
     if is_reader t.kind then Err (ReaderWrites (handle_of t))
     else if not (in_table keys k 1) then Err (KeyOutside k)
-    else if no_room t.writes k then Err (WriteListFull (handle_of t))
+    else if write_list_full t.writes k then Err (WriteListFull (handle_of t))
     else Ok tt
 
 -- a call by the transaction t; it may always commit or abort
@@ -138,7 +140,7 @@ transaction_check keys room t _ = Ok tt
 -- the transaction that makes a call under the handle h, if there is one and it may
 abbrev pub maker : ℕ → ℕ → ℕ → Call → Option Transaction → Result Transaction Fault
 maker keys room h c None = Err (NoTransaction h)
-maker keys room h c (Some t) = result_map_both (λ _. t) (λ f. f) (transaction_check keys room t c)
+maker keys room h c (Some t) = result_map (λ _. t) (transaction_check keys room t c)
 
 -- Begin
 
@@ -156,7 +158,7 @@ begin_effect l b kind = record { done = Done.Began (l.clock + 1); buffer = b; le
 
 -- Read
 
--- what a transaction reads at a key: a reader as of its start, an updater its own write or else the newest value
+-- what a transaction reads at a key: a reader as of its moment, an updater its own write or else the newest value
 abbrev pub seen : Ledger → Transaction → ℕ → ℕ
 seen l t k =
     if is_reader t.kind then value_below k (moment_of t) l.versions
@@ -186,7 +188,7 @@ write_effect l b h k x = record { done = Done.Wrote; buffer = b; ledger = with_c
 abbrev pub reclaimed : Ledger → Ledger
 reclaimed l = record l {
   versions = map (λ (v : Version). record v { present = v.present && not (dead l v) }) l.versions;
-  trimmed = max l.trimmed (trim_tick l);
+  trimmed_at = max l.trimmed_at (trim_tick l);
 }
 
 -- how many versions are newly marked removed
@@ -195,8 +197,8 @@ reclaim_effect l b = record { done = Done.Reclaimed (dead_count l); buffer = b; 
 
 -- Commit
 
--- a key read that clashes, and the stamp of its granule
-pub record Clash : Type 0 where
+-- a key read whose granule was written since, and the stamp of its granule
+pub record StaleRead : Type 0 where
   pub key : ℕ
   pub stamp : ℕ
 
@@ -211,24 +213,24 @@ granule_stamp g k [] = 0
 granule_stamp g k (v ∷ vs) = if g v.key == g k then max v.stamp (granule_stamp g k vs) else granule_stamp g k vs
 
 -- the first of the keys whose granule has a stamp above the start tick s, with that stamp
-abbrev pub clash_among : (ℕ → ℕ) → List Version → ℕ → List ℕ → Option Clash
-clash_among g vs s ks =
+abbrev pub stale_read_among : (ℕ → ℕ) → List Version → ℕ → List ℕ → Option StaleRead
+stale_read_among g vs s ks =
     option_map (λ k. record { key = k; stamp = granule_stamp g k vs }) (find (λ k. nat_lt s (granule_stamp g k vs)) ks)
 
--- the first clash of an updater, told from all versions ever committed
-abbrev pub clash : Ledger → Transaction → Option Clash
-clash l t = clash_among l.limits.granule l.versions t.start (read_keys t.reads)
+-- the first stale read of an updater, told from all versions ever committed
+abbrev pub stale_read : Ledger → Transaction → Option StaleRead
+stale_read l t = stale_read_among l.limits.granule l.versions t.start (read_keys t.reads)
 
 -- the cells that are lacking for so many writes
 abbrev pub shortage_in : Ledger → ℕ → Option Shortage
 shortage_in l n = shortage l.limits.cells (present_count l) n
 
--- where cells are lacking a reclaim goes first
-abbrev pub with_room : Ledger → ℕ → Ledger
-with_room l n = if is_some (shortage_in l n) then reclaimed l else l
+-- where cells are lacking, a reclaim goes first
+abbrev pub reclaimed_if_short : Ledger → ℕ → Ledger
+reclaimed_if_short l n = if is_some (shortage_in l n) then reclaimed l else l
 
 -- the versions that a write list becomes, in its order
-abbrev pub stamped : ℕ → List Entry → List Version
+abbrev pub stamped : ℕ → List Write → List Version
 stamped s ws = map (λ w. record { key = w.key; stamp = s; value = w.value; present = true }) ws
 
 -- the next tick is drawn, and an updater's writes become versions of it
@@ -244,14 +246,14 @@ full_or_committed l (Some s) = Full s.writes s.free
 full_or_committed l None = Committed (l.clock + 1)
 
 -- restart, spent, full, committed: the first that applies
-abbrev pub verdict_after : Ledger → Transaction → Option Clash → Verdict
+abbrev pub verdict_after : Ledger → Transaction → Option StaleRead → Verdict
 verdict_after l t (Some c) = Restart c.key c.stamp
 verdict_after l t None =
     if out_of_ticks l.clock l.limits.last then Spent
     else full_or_committed l (shortage_in l (length t.writes))
 
 abbrev pub verdict : Ledger → Transaction → Verdict
-verdict l t = verdict_after l t (clash l t)
+verdict l t = verdict_after l t (stale_read l t)
 
 -- the ledger that a verdict leaves: the updater has ended, its writes installed if it is committed
 abbrev pub left_by : Ledger → Transaction → Verdict → Ledger
@@ -269,10 +271,10 @@ judged l b t =
     let v = verdict l t in
     record { done = Done.Ended v; buffer = b; ledger = left_by l t v }
 
--- a reader is closed; an updater is judged, still active, once there is room
+-- a reader is closed; an updater is judged while it is still active, after a reclaim where cells are lacking
 abbrev pub commit_effect : Ledger → List ℕ → ℕ → Transaction → Effect
 commit_effect l b h t =
-    if is_judged t.kind (Call.Commit h) then judged (with_room l (length t.writes)) b t
+    if is_judged t.kind (Call.Commit h) then judged (reclaimed_if_short l (length t.writes)) b t
     else record { done = Done.Ended Closed; buffer = b; ledger = ended l h }
 
 -- Abort
@@ -286,13 +288,13 @@ abort_effect l b h = record { done = Done.Aborted; buffer = b; ledger = ended l 
 abbrev pub by_handle : Ledger → List ℕ → ℕ → Call → Result Transaction Fault
 by_handle l b h c = maker l.limits.keys (length b) h c (found l.active h)
 
--- each call: its check, and what it does once that is passed
+-- each call: what it does once its check is passed
 abbrev pub effect_of : Ledger → Call → List ℕ → Result Effect Fault
-effect_of l (Call.Begin kind) b = if_passed (begin_check (length l.active) l.clock l.limits.last) (λ _. begin_effect l b kind)
-effect_of l (Call.Read h k n) b = if_passed (by_handle l b h (Call.Read h k n)) (read_effect l b h k n)
-effect_of l (Call.Write h k x) b = if_passed (by_handle l b h (Call.Write h k x)) (λ _. write_effect l b h k x)
-effect_of l (Call.Commit h) b = if_passed (by_handle l b h (Call.Commit h)) (commit_effect l b h)
-effect_of l (Call.Abort h) b = if_passed (by_handle l b h (Call.Abort h)) (λ _. abort_effect l b h)
+effect_of l (Call.Begin kind) b = result_map (λ _. begin_effect l b kind) (begin_check (length l.active) l.clock l.limits.last)
+effect_of l (Call.Read h k n) b = result_map (read_effect l b h k n) (by_handle l b h (Call.Read h k n))
+effect_of l (Call.Write h k x) b = result_map (λ _. write_effect l b h k x) (by_handle l b h (Call.Write h k x))
+effect_of l (Call.Commit h) b = result_map (commit_effect l b h) (by_handle l b h (Call.Commit h))
+effect_of l (Call.Abort h) b = result_map (λ _. abort_effect l b h) (by_handle l b h (Call.Abort h))
 effect_of l Call.Reclaim b = Ok (reclaim_effect l b)
 
 abbrev pub step : Ledger → Call → List ℕ → Outcome

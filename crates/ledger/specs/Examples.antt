@@ -1,5 +1,6 @@
 -- Worked examples of the calls, as a club's engine answers them.
-use Rattle.std.specs.Prelude.{◌≡◌, ℕ, zero, suc, ◌+◌, ◌/◌, List, [], ◌∷◌, Ok, Err, Result}
+use Rattle.std.specs.Prelude.{◌≡◌, ℕ, zero, suc, ◌+◌, ◌-◌, ◌/◌, List, [], ◌∷◌, Ok, Err, Result}
+use Rattle.ledger.specs.declared.TheConstants.{MAX_ACTIVE, MAX_READS, MAX_WRITES}
 use Rattle.ledger.specs.declared.Kind.TheVariants.{Reader, Updater}
 use Rattle.ledger.specs.declared.Fault.{Fault}
 use Rattle.ledger.specs.declared.Fault.TheVariants.{KeyOutside, ShortBuffer, NoTransaction, ReaderWrites, TooManyActive, ClockSpent, ReadListFull, WriteListFull}
@@ -8,15 +9,11 @@ use Rattle.ledger.specs.declared.Call.{Call}
 use Rattle.ledger.specs.declared.Done.{Done}
 use Rattle.ledger.specs.Ledger.{Ledger, new_ledger, no_limits}
 use Rattle.ledger.specs.Calls.{step}
-use Rattle.ledger.specs.History.{Made}
+use Rattle.ledger.specs.History.{Made, call_made}
 
 -- a call made with an empty buffer
-abbrev pub asks : Call → Result Done Fault → Made
-asks c a = record { call = c; given = []; answer = a; left = [] }
-
--- a call made with a buffer
-abbrev pub reads : Call → List ℕ → Result Done Fault → List ℕ → Made
-reads c b a x = record { call = c; given = b; answer = a; left = x }
+abbrev pub unlent : Call → Result Done Fault → Made
+unlent c a = call_made c [] a []
 
 -- made one after another, the first in front, the ledger answers each so
 abbrev pub Plays : Ledger → List Made → Type 0
@@ -32,144 +29,144 @@ abbrev pub coarse : Ledger
 coarse = new_ledger (record { keys = 64; cells = 256; last = 4294967294; granule = λ k. k / 4 })
 
 -- an updater that begins at the tick s writes x to key 0 and is committed at c
-abbrev pub handicap : ℕ → ℕ → ℕ → List Made → List Made
-handicap s x c more = asks (Call.Begin Updater) (Ok (Done.Began s)) ∷ asks (Call.Write s 0 x) (Ok Done.Wrote) ∷ asks (Call.Commit s) (Ok (Done.Ended (Committed c))) ∷ more
+abbrev pub value_committed : ℕ → ℕ → ℕ → List Made → List Made
+value_committed s x c more = unlent (Call.Begin Updater) (Ok (Done.Began s)) ∷ unlent (Call.Write s 0 x) (Ok Done.Wrote) ∷ unlent (Call.Commit s) (Ok (Done.Ended (Committed c))) ∷ more
 
 -- so many readers begin at the ticks from s on
-abbrev pub crowd : ℕ → ℕ → List Made → List Made
-crowd zero s more = more
-crowd (suc n) s more = asks (Call.Begin Reader) (Ok (Done.Began s)) ∷ crowd n (s + 1) more
+abbrev pub readers_begin : ℕ → ℕ → List Made → List Made
+readers_begin zero s more = more
+readers_begin (suc n) s more = unlent (Call.Begin Reader) (Ok (Done.Began s)) ∷ readers_begin n (s + 1) more
 
 -- updater 1 reads so many keys from k on, each by itself
-abbrev pub browse : ℕ → ℕ → List Made → List Made
-browse zero k more = more
-browse (suc n) k more = reads (Call.Read 1 k 1) (9 ∷ []) (Ok (Done.Read 1)) (0 ∷ []) ∷ browse n (k + 1) more
+abbrev pub ranges_read : ℕ → ℕ → List Made → List Made
+ranges_read zero k more = more
+ranges_read (suc n) k more = call_made (Call.Read 1 k 1) (9 ∷ []) (Ok (Done.Read 1)) (0 ∷ []) ∷ ranges_read n (k + 1) more
 
 -- updater 1 writes to so many keys from k on
 abbrev pub fill : ℕ → ℕ → List Made → List Made
 fill zero k more = more
-fill (suc n) k more = asks (Call.Write 1 k 7) (Ok Done.Wrote) ∷ fill n (k + 1) more
+fill (suc n) k more = unlent (Call.Write 1 k 7) (Ok Done.Wrote) ∷ fill n (k + 1) more
 
 -- a reader keeps seeing what stood at its start; an updater that read what has changed since is restarted
 abbrev pub listing : List Made
 listing =
-    asks (Call.Begin Updater) (Ok (Done.Began 1))
-    ∷ asks (Call.Write 1 5 54) (Ok Done.Wrote)
-    ∷ asks (Call.Begin Reader) (Ok (Done.Began 2))
-    ∷ asks (Call.Begin Updater) (Ok (Done.Began 3))
-    ∷ reads (Call.Read 3 5 1) (9 ∷ 9 ∷ []) (Ok (Done.Read 1)) (0 ∷ 9 ∷ [])
-    ∷ asks (Call.Commit 1) (Ok (Done.Ended (Committed 4)))
-    ∷ reads (Call.Read 2 5 2) (9 ∷ 9 ∷ []) (Ok (Done.Read 2)) (0 ∷ 0 ∷ [])
-    ∷ asks (Call.Commit 3) (Ok (Done.Ended (Restart 5 4)))
-    ∷ asks Call.Reclaim (Ok (Done.Reclaimed 0))
-    ∷ asks (Call.Commit 2) (Ok (Done.Ended Closed))
-    ∷ reads (Call.Read 2 64 0) (9 ∷ 9 ∷ []) (Err (NoTransaction 2)) (9 ∷ 9 ∷ [])
-    ∷ asks (Call.Begin Reader) (Ok (Done.Began 5))
-    ∷ reads (Call.Read 5 5 1) (9 ∷ 9 ∷ []) (Ok (Done.Read 1)) (54 ∷ 9 ∷ [])
-    ∷ reads (Call.Read 5 64 0) (9 ∷ 9 ∷ []) (Ok (Done.Read 0)) (9 ∷ 9 ∷ [])
-    ∷ reads (Call.Read 5 64 1) (9 ∷ 9 ∷ []) (Err (KeyOutside 64)) (9 ∷ 9 ∷ [])
+    unlent (Call.Begin Updater) (Ok (Done.Began 1))
+    ∷ unlent (Call.Write 1 5 54) (Ok Done.Wrote)
+    ∷ unlent (Call.Begin Reader) (Ok (Done.Began 2))
+    ∷ unlent (Call.Begin Updater) (Ok (Done.Began 3))
+    ∷ call_made (Call.Read 3 5 1) (9 ∷ 9 ∷ []) (Ok (Done.Read 1)) (0 ∷ 9 ∷ [])
+    ∷ unlent (Call.Commit 1) (Ok (Done.Ended (Committed 4)))
+    ∷ call_made (Call.Read 2 5 2) (9 ∷ 9 ∷ []) (Ok (Done.Read 2)) (0 ∷ 0 ∷ [])
+    ∷ unlent (Call.Commit 3) (Ok (Done.Ended (Restart 5 4)))
+    ∷ unlent Call.Reclaim (Ok (Done.Reclaimed 0))
+    ∷ unlent (Call.Commit 2) (Ok (Done.Ended Closed))
+    ∷ call_made (Call.Read 2 64 0) (9 ∷ 9 ∷ []) (Err (NoTransaction 2)) (9 ∷ 9 ∷ [])
+    ∷ unlent (Call.Begin Reader) (Ok (Done.Began 5))
+    ∷ call_made (Call.Read 5 5 1) (9 ∷ 9 ∷ []) (Ok (Done.Read 1)) (54 ∷ 9 ∷ [])
+    ∷ call_made (Call.Read 5 64 0) (9 ∷ 9 ∷ []) (Ok (Done.Read 0)) (9 ∷ 9 ∷ [])
+    ∷ call_made (Call.Read 5 64 1) (9 ∷ 9 ∷ []) (Err (KeyOutside 64)) (9 ∷ 9 ∷ [])
     ∷ []
 
 -- the begin takes the only tick
 abbrev pub only_tick : List Made
 only_tick =
-    asks (Call.Begin Updater) (Ok (Done.Began 1))
-    ∷ asks (Call.Commit 1) (Ok (Done.Ended Spent))
+    unlent (Call.Begin Updater) (Ok (Done.Began 1))
+    ∷ unlent (Call.Commit 1) (Ok (Done.Ended Spent))
     ∷ []
 
 -- two writes for one cell
 abbrev pub one_cell : List Made
 one_cell =
-    asks (Call.Begin Updater) (Ok (Done.Began 1))
-    ∷ asks (Call.Write 1 0 7) (Ok Done.Wrote)
-    ∷ asks (Call.Write 1 1 8) (Ok Done.Wrote)
-    ∷ asks (Call.Commit 1) (Ok (Done.Ended (Full 2 1)))
+    unlent (Call.Begin Updater) (Ok (Done.Began 1))
+    ∷ unlent (Call.Write 1 0 7) (Ok Done.Wrote)
+    ∷ unlent (Call.Write 1 1 8) (Ok Done.Wrote)
+    ∷ unlent (Call.Commit 1) (Ok (Done.Ended (Full 2 1)))
     ∷ []
 
 -- two cells; without a reader the version before the last is dead, and its cell is had by a reclaim
 abbrev pub reclaims_first : List Made
-reclaims_first = handicap 1 21 2 (handicap 3 22 4 (handicap 5 23 6 []))
+reclaims_first = value_committed 1 21 2 (value_committed 3 22 4 (value_committed 5 23 6 []))
 
 -- two cells; a reader that began between two versions keeps both
 abbrev pub reader_keeps : List Made
 reader_keeps =
-    handicap 1 21 2
-    (asks (Call.Begin Reader) (Ok (Done.Began 3))
-    ∷ handicap 4 22 5
-    (asks (Call.Begin Updater) (Ok (Done.Began 6))
-    ∷ asks (Call.Write 6 0 23) (Ok Done.Wrote)
-    ∷ asks (Call.Commit 6) (Ok (Done.Ended (Full 1 0)))
+    value_committed 1 21 2
+    (unlent (Call.Begin Reader) (Ok (Done.Began 3))
+    ∷ value_committed 4 22 5
+    (unlent (Call.Begin Updater) (Ok (Done.Began 6))
+    ∷ unlent (Call.Write 6 0 23) (Ok Done.Wrote)
+    ∷ unlent (Call.Commit 6) (Ok (Done.Ended (Full 1 0)))
     ∷ []))
 
 -- updater 1 reads key 0, then another commits a write to the key k
 abbrev pub meanwhile : ℕ → Result Done Fault → List Made
 meanwhile k a =
-    asks (Call.Begin Updater) (Ok (Done.Began 1))
-    ∷ reads (Call.Read 1 0 1) (9 ∷ []) (Ok (Done.Read 1)) (0 ∷ [])
-    ∷ asks (Call.Begin Updater) (Ok (Done.Began 2))
-    ∷ asks (Call.Write 2 k 7) (Ok Done.Wrote)
-    ∷ asks (Call.Commit 2) (Ok (Done.Ended (Committed 3)))
-    ∷ asks (Call.Commit 1) a
+    unlent (Call.Begin Updater) (Ok (Done.Began 1))
+    ∷ call_made (Call.Read 1 0 1) (9 ∷ []) (Ok (Done.Read 1)) (0 ∷ [])
+    ∷ unlent (Call.Begin Updater) (Ok (Done.Began 2))
+    ∷ unlent (Call.Write 2 k 7) (Ok Done.Wrote)
+    ∷ unlent (Call.Commit 2) (Ok (Done.Ended (Committed 3)))
+    ∷ unlent (Call.Commit 1) a
     ∷ []
 
 -- an updater that read nothing is committed, though another wrote its key since it began
 abbrev pub read_nothing : List Made
 read_nothing =
-    asks (Call.Begin Updater) (Ok (Done.Began 1))
-    ∷ asks (Call.Write 1 5 7) (Ok Done.Wrote)
-    ∷ asks (Call.Begin Updater) (Ok (Done.Began 2))
-    ∷ asks (Call.Write 2 5 8) (Ok Done.Wrote)
-    ∷ asks (Call.Commit 2) (Ok (Done.Ended (Committed 3)))
-    ∷ asks (Call.Commit 1) (Ok (Done.Ended (Committed 4)))
+    unlent (Call.Begin Updater) (Ok (Done.Began 1))
+    ∷ unlent (Call.Write 1 5 7) (Ok Done.Wrote)
+    ∷ unlent (Call.Begin Updater) (Ok (Done.Began 2))
+    ∷ unlent (Call.Write 2 5 8) (Ok Done.Wrote)
+    ∷ unlent (Call.Commit 2) (Ok (Done.Ended (Committed 3)))
+    ∷ unlent (Call.Commit 1) (Ok (Done.Ended (Committed 4)))
     ∷ []
 
--- an updater sees its own write; what was committed before it began is no clash
+-- an updater sees its own write; a read of what was committed before it began is not stale
 abbrev pub own_write_seen : List Made
 own_write_seen =
-    handicap 1 21 2
-    (asks (Call.Begin Updater) (Ok (Done.Began 3))
-    ∷ reads (Call.Read 3 0 1) (9 ∷ []) (Ok (Done.Read 1)) (21 ∷ [])
-    ∷ asks (Call.Write 3 0 22) (Ok Done.Wrote)
-    ∷ reads (Call.Read 3 0 1) (9 ∷ []) (Ok (Done.Read 1)) (22 ∷ [])
-    ∷ asks (Call.Commit 3) (Ok (Done.Ended (Committed 4)))
+    value_committed 1 21 2
+    (unlent (Call.Begin Updater) (Ok (Done.Began 3))
+    ∷ call_made (Call.Read 3 0 1) (9 ∷ []) (Ok (Done.Read 1)) (21 ∷ [])
+    ∷ unlent (Call.Write 3 0 22) (Ok Done.Wrote)
+    ∷ call_made (Call.Read 3 0 1) (9 ∷ []) (Ok (Done.Read 1)) (22 ∷ [])
+    ∷ unlent (Call.Commit 3) (Ok (Done.Ended (Committed 4)))
     ∷ [])
 
--- sixteen are active
-abbrev pub all_sixteen : List Made
-all_sixteen = crowd 16 1 (asks (Call.Begin Updater) (Err TooManyActive) ∷ [])
+-- as many are active as may be
+abbrev pub most_active : List Made
+most_active = readers_begin MAX_ACTIVE 1 (unlent (Call.Begin Updater) (Err TooManyActive) ∷ [])
 
--- a read list of 32 takes no other range; one that is there, and one of no keys, need not join it
-abbrev pub read_list_full : List Made
-read_list_full =
-    asks (Call.Begin Updater) (Ok (Done.Began 1))
-    ∷ browse 32 0
-    (reads (Call.Read 1 32 1) (9 ∷ []) (Err (ReadListFull 1)) (9 ∷ [])
-    ∷ browse 1 31 (asks (Call.Read 1 40 0) (Ok (Done.Read 0)) ∷ []))
+-- a full read list takes no other range; one that is there, and one of no keys, need not join it
+abbrev pub full_read_list : List Made
+full_read_list =
+    unlent (Call.Begin Updater) (Ok (Done.Began 1))
+    ∷ ranges_read MAX_READS 0
+    (call_made (Call.Read 1 MAX_READS 1) (9 ∷ []) (Err (ReadListFull 1)) (9 ∷ [])
+    ∷ ranges_read 1 (MAX_READS - 1) (unlent (Call.Read 1 40 0) (Ok (Done.Read 0)) ∷ []))
 
--- a write list of 32 takes no other key; one that is there gets its new value
-abbrev pub write_list_full : List Made
-write_list_full =
-    asks (Call.Begin Updater) (Ok (Done.Began 1))
-    ∷ fill 32 0 (asks (Call.Write 1 32 7) (Err (WriteListFull 1)) ∷ fill 1 31 [])
+-- a full write list takes no other key; one that is there gets its new value
+abbrev pub full_write_list : List Made
+full_write_list =
+    unlent (Call.Begin Updater) (Ok (Done.Began 1))
+    ∷ fill MAX_WRITES 0 (unlent (Call.Write 1 MAX_WRITES 7) (Err (WriteListFull 1)) ∷ fill 1 (MAX_WRITES - 1) [])
 
 -- a reader writes, a buffer is short, a key is off the table, a handle has ended
-abbrev pub refusals : List Made
-refusals =
-    asks (Call.Begin Reader) (Ok (Done.Began 1))
-    ∷ asks (Call.Write 1 0 7) (Err (ReaderWrites 1))
-    ∷ reads (Call.Read 1 0 2) (9 ∷ []) (Err (ShortBuffer 1)) (9 ∷ [])
-    ∷ asks (Call.Begin Updater) (Ok (Done.Began 2))
-    ∷ asks (Call.Write 2 64 7) (Err (KeyOutside 64))
-    ∷ asks (Call.Abort 2) (Ok Done.Aborted)
-    ∷ asks (Call.Abort 2) (Err (NoTransaction 2))
+abbrev pub refused_calls : List Made
+refused_calls =
+    unlent (Call.Begin Reader) (Ok (Done.Began 1))
+    ∷ unlent (Call.Write 1 0 7) (Err (ReaderWrites 1))
+    ∷ call_made (Call.Read 1 0 2) (9 ∷ []) (Err (ShortBuffer 1)) (9 ∷ [])
+    ∷ unlent (Call.Begin Updater) (Ok (Done.Began 2))
+    ∷ unlent (Call.Write 2 64 7) (Err (KeyOutside 64))
+    ∷ unlent (Call.Abort 2) (Ok Done.Aborted)
+    ∷ unlent (Call.Abort 2) (Err (NoTransaction 2))
     ∷ []
 
 -- an engine that was set up wrongly
 abbrev pub set_up_wrongly : List Made
 set_up_wrongly =
-    asks (Call.Begin Reader) (Err (ClockSpent 0))
-    ∷ asks (Call.Read 1 0 0) (Err (NoTransaction 1))
-    ∷ asks Call.Reclaim (Ok (Done.Reclaimed 0))
+    unlent (Call.Begin Reader) (Err (ClockSpent 0))
+    ∷ unlent (Call.Read 1 0 0) (Err (NoTransaction 1))
+    ∷ unlent Call.Reclaim (Ok (Done.Reclaimed 0))
     ∷ []
 
 -- all the worked examples: each list of calls is answered as it says
@@ -177,15 +174,15 @@ pub record Examples : Type 0 where
   pub an_afternoon : Plays (club 256 4294967294) listing
   pub spent : Plays (club 256 1) only_tick
   pub full : Plays (club 1 9) one_cell
-  pub made_room : Plays (club 2 9) reclaims_first
+  pub reclaimed : Plays (club 2 9) reclaims_first
   pub kept : Plays (club 2 9) reader_keeps
   -- key 3 is in the granule of key 0, key 4 is not
   pub near : Plays coarse (meanwhile 3 (Ok (Done.Ended (Restart 0 3))))
   pub far : Plays coarse (meanwhile 4 (Ok (Done.Ended (Committed 4))))
   pub blind : Plays (club 256 9) read_nothing
   pub later : Plays (club 256 9) own_write_seen
-  pub crowded : Plays (club 256 99) all_sixteen
-  pub browsed : Plays (club 256 99) read_list_full
-  pub filled : Plays (club 256 99) write_list_full
-  pub refused : Plays (club 256 99) refusals
+  pub all_active : Plays (club 256 99) most_active
+  pub browsed : Plays (club 256 99) full_read_list
+  pub filled : Plays (club 256 99) full_write_list
+  pub refused : Plays (club 256 99) refused_calls
   pub idle : Plays (new_ledger no_limits) set_up_wrongly

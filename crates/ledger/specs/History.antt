@@ -6,7 +6,7 @@ use Rattle.ledger.specs.declared.Fault.{Fault}
 use Rattle.ledger.specs.declared.Verdict.TheVariants.{Committed}
 use Rattle.ledger.specs.declared.Call.{Call}
 use Rattle.ledger.specs.declared.Done.{Done}
-use Rattle.ledger.specs.Ledger.{Limits, Ledger, new_ledger}
+use Rattle.ledger.specs.Ledger.{Limits, Ledger, new_ledger, start_of}
 use Rattle.ledger.specs.Calls.{step}
 
 -- one call made: the caller's buffer before it, its answer, and the buffer after it
@@ -16,17 +16,24 @@ pub record Made : Type 0 where
   pub answer : Result Done Fault
   pub left : List ℕ
 
+abbrev pub call_made : Call → List ℕ → Result Done Fault → List ℕ → Made
+call_made c b a b' = record { call = c; given = b; answer = a; left = b' }
+
 -- A history is a list of calls made, the newest first.
+
+-- the ledger after more calls, the newest first
+abbrev pub after_more : Ledger → List Made → Ledger
+after_more l [] = l
+after_more l (m ∷ ms) = (step (after_more l ms) m.call m.given).ledger
 
 -- the ledger after a history
 abbrev pub after : Limits → List Made → Ledger
-after n [] = new_ledger n
-after n (m ∷ ms) = (step (after n ms) m.call m.given).ledger
+after n ms = after_more (new_ledger n) ms
 
 -- every answer and every buffer in the history is the ledger's
-abbrev pub Told : Limits → List Made → Type 0
-Told n [] = Unit {0}
-Told n (m ∷ ms) = (m.answer ≡ (step (after n ms) m.call m.given).answer) × (m.left ≡ (step (after n ms) m.call m.given).buffer) × Told n ms
+abbrev pub IsTold : Limits → List Made → Type 0
+IsTold n [] = Unit {0}
+IsTold n (m ∷ ms) = (m.answer ≡ (step (after n ms) m.call m.given).answer) × (m.left ≡ (step (after n ms) m.call m.given).buffer) × IsTold n ms
 
 -- What a call did
 
@@ -74,8 +81,8 @@ deed m = deed_of m.call m.answer m.left
 
 -- a read of a range of keys, or a write
 pub data Operation : Type 0 where
-  look : ℕ → ℕ → Operation
-  put : ℕ → ℕ → Operation
+  read_range : ℕ → ℕ → Operation
+  write_key : ℕ → ℕ → Operation
 
 -- the one thing where the test holds, and else nothing
 abbrev pub when : {X : Type 0} → Bool → X → List X
@@ -83,8 +90,8 @@ when b x = if b then x ∷ [] else []
 
 -- the operation of the transaction with this handle that a deed is
 abbrev pub operation_in : ℕ → Deed → List Operation
-operation_in h (reads g k n vs) = when (g == h) (look k n)
-operation_in h (sets g k x) = when (g == h) (put k x)
+operation_in h (reads g k n vs) = when (g == h) (read_range k n)
+operation_in h (sets g k x) = when (g == h) (write_key k x)
 operation_in h _ = []
 
 -- the reads and writes of the transaction h, in call order
@@ -128,25 +135,25 @@ updater_in h (m ∷ ms) = is_updater_begin h (deed m) || updater_in h ms
 -- The serial order: a reader stands at its start tick, an updater that was committed at that tick
 
 -- a tick, and the handle of who stands there
-pub record Place : Type 0 where
+pub record Standing : Type 0 where
   pub tick : ℕ
   pub handle : ℕ
 
--- the place that a deed gives; a reader's start is its handle
-abbrev pub place_in : Deed → Option Place
-place_in (begins Reader h) = Some (record { tick = h; handle = h })
-place_in (commits h t) = Some (record { tick = t; handle = h })
-place_in _ = None
+-- the standing that a deed gives; a reader stands at its start
+abbrev pub standing_in : Deed → Option Standing
+standing_in (begins Reader h) = Some (record { tick = start_of h; handle = h })
+standing_in (commits h t) = Some (record { tick = t; handle = h })
+standing_in _ = None
 
 -- the handle of who stands at the tick, or else what the rest says
-abbrev pub at_tick : ℕ → Option Place → Option ℕ → Option ℕ
+abbrev pub at_tick : ℕ → Option Standing → Option ℕ → Option ℕ
 at_tick t None rest = rest
 at_tick t (Some p) rest = if p.tick == t then Some p.handle else rest
 
 -- the handle of the transaction that stands at a tick
 abbrev pub stands_at : List Made → ℕ → Option ℕ
 stands_at [] t = None
-stands_at (m ∷ ms) t = at_tick t (place_in (deed m)) (stands_at ms t)
+stands_at (m ∷ ms) t = at_tick t (standing_in (deed m)) (stands_at ms t)
 
 -- Reclaims
 

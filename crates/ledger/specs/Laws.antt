@@ -8,21 +8,21 @@ use Rattle.ledger.specs.declared.Fault.{Fault}
 use Rattle.ledger.specs.declared.Fault.TheVariants.{NoTransaction, ClockSpent}
 use Rattle.ledger.specs.declared.Verdict.TheVariants.{Restart}
 use Rattle.ledger.specs.declared.Done.{Done}
-use Rattle.ledger.specs.Ledger.{Limits, Transaction, Version, Ledger, Shortage, found, is_reader, dead, live_count, shortage, newest_value}
-use Rattle.ledger.specs.Calls.{step, reclaimed, clash, out_of_ticks}
-use Rattle.ledger.specs.Reach.{Reached}
-use Rattle.ledger.specs.Orderly.{Orderly}
-use Rattle.ledger.specs.History.{Made, Deed, begins, commits, deed, after, Told, operations, saw, is_begin_of, is_end_of, updater_in, place_in, stands_at, others, asked}
+use Rattle.ledger.specs.Ledger.{Limits, Transaction, Version, Ledger, Shortage, start_of, found, is_reader, dead, live_count, shortage, newest_value}
+use Rattle.ledger.specs.Calls.{step, reclaimed, stale_read, out_of_ticks}
+use Rattle.ledger.specs.Reach.{IsReached}
+use Rattle.ledger.specs.Orderly.{IsOrderly}
+use Rattle.ledger.specs.History.{Made, call_made, Deed, begins, commits, deed, after, IsTold, operations, saw, is_begin_of, is_end_of, updater_in, standing_in, stands_at, others, asked}
 use Rattle.ledger.specs.Serial.{run_reads, table}
-use Rattle.ledger.specs.Clashes.{keys_read, first_overwritten, restart_of, full_of}
+use Rattle.ledger.specs.Restarts.{keys_read, first_overwritten, restart_of, full_of}
 
 -- Over a history
 
 -- Serial: every transaction in the order reads what it would read running alone in its place, and newest is what they leave.
-pub record Serial (n : Limits) (ms : List Made) (newest : ℕ → ℕ) : Type 0 where
-  -- who is given a place at a tick stands there, and no one stands elsewhere
+pub record IsSerial (n : Limits) (ms : List Made) (newest : ℕ → ℕ) : Type 0 where
+  -- who is given a standing at a tick stands there, and no one stands elsewhere
   pub stands : (newer older : List Made) (m : Made) (t h : ℕ)
-      → ms ≡ newer ++ (m ∷ older) → place_in (deed m) ≡ Some (record { tick = t; handle = h }) → stands_at ms t ≡ Some h
+      → ms ≡ newer ++ (m ∷ older) → standing_in (deed m) ≡ Some (record { tick = t; handle = h }) → stands_at ms t ≡ Some h
   pub within : (t h : ℕ) → stands_at ms t ≡ Some h → (0 < t) × (t ≤ (after n ms).clock)
   -- run on the table as the ticks before leave it, its reads give what they left in the callers' buffers
   pub reads : (t h : ℕ) → stands_at ms (suc t) ≡ Some h → run_reads (operations h ms) (table ms t) ≡ saw h ms
@@ -37,12 +37,12 @@ KeepsTime ms = (newer between older : List Made) (e b : Made) (g h s t : ℕ)
     → stands_at ms s ≡ Some g → stands_at ms t ≡ Some h → s < t
 
 -- Reclaims: whatever else was reclaimed, every other call is answered alike.
-abbrev pub Unmoved : Limits → List Made → Type 0
-Unmoved n ms = (ns : List Made) → Told n ns → asked (others ns) ≡ asked (others ms) → others ns ≡ others ms
+abbrev pub IgnoresReclaims : Limits → List Made → Type 0
+IgnoresReclaims n ms = (ns : List Made) → IsTold n ns → asked (others ns) ≡ asked (others ms) → others ns ≡ others ms
 
 -- Restarts: an updater's commit is restarted exactly if another, committed since it began, wrote into the granule of a key that it read.
-abbrev pub Restarts : Limits → List Made → Type 0
-Restarts n ms = (newer older : List Made) (m : Made) (h : ℕ)
+abbrev pub RestartsIfOverwritten : Limits → List Made → Type 0
+RestartsIfOverwritten n ms = (newer older : List Made) (m : Made) (h : ℕ)
     → ms ≡ newer ++ (m ∷ older)
     → m.call ≡ Call.Commit h → is_ok m.answer ≡ true → updater_in h older ≡ true
     → restart_of m.answer ≡ first_overwritten n.granule older h (keys_read (operations h older))
@@ -50,55 +50,55 @@ Restarts n ms = (newer older : List Made) (m : Made) (h : ℕ)
 -- the shortage where the versions that are not dead take cells, unless a restart or spent goes before full
 abbrev pub live_shortage : Ledger → Transaction → Option Shortage
 live_shortage l t =
-    if is_some (clash l t) || out_of_ticks l.clock l.limits.last then None
+    if is_some (stale_read l t) || out_of_ticks l.clock l.limits.last then None
     else shortage l.limits.cells (live_count l) (length t.writes)
 
 -- Full: an updater's commit is full only if it must be.
-abbrev pub Fulls : Limits → List Made → Type 0
-Fulls n ms = (newer older : List Made) (m : Made) (h : ℕ) (t : Transaction)
+abbrev pub IsFullIfShort : Limits → List Made → Type 0
+IsFullIfShort n ms = (newer older : List Made) (m : Made) (h : ℕ) (t : Transaction)
     → ms ≡ newer ++ (m ∷ older)
     → m.call ≡ Call.Commit h → found (after n older).active h ≡ Some t → is_reader t.kind ≡ false
     → full_of m.answer ≡ live_shortage (after n older) t
 
 -- what holds after each call of any list of calls on one new engine
-pub record Lawful (n : Limits) (ms : List Made) (newest : ℕ → ℕ) : Type 0 where
-  pub serial : Serial n ms newest
+pub record IsLawfulHistory (n : Limits) (ms : List Made) (newest : ℕ → ℕ) : Type 0 where
+  pub serial : IsSerial n ms newest
   pub time : KeepsTime ms
-  pub reclaims : Unmoved n ms
-  pub restarts : Restarts n ms
-  pub fulls : Fulls n ms
+  pub reclaims : IgnoresReclaims n ms
+  pub restarts : RestartsIfOverwritten n ms
+  pub fulls : IsFullIfShort n ms
 
 -- The laws, of every history that the ledger tells
 
 -- every told history is serial, with the newest values at its end
 abbrev pub SerialLaw : Type 0
-SerialLaw = (n : Limits) (ms : List Made) → Told n ms → Serial n ms (λ k. newest_value k (after n ms).versions)
+SerialLaw = (n : Limits) (ms : List Made) → IsTold n ms → IsSerial n ms (λ k. newest_value k (after n ms).versions)
 
 -- every told history keeps real time
 abbrev pub TimeLaw : Type 0
-TimeLaw = (n : Limits) (ms : List Made) → Told n ms → KeepsTime ms
+TimeLaw = (n : Limits) (ms : List Made) → IsTold n ms → KeepsTime ms
 
 -- in every told history reclaims move nothing
 abbrev pub ReclaimLaw : Type 0
-ReclaimLaw = (n : Limits) (ms : List Made) → Told n ms → Unmoved n ms
+ReclaimLaw = (n : Limits) (ms : List Made) → IsTold n ms → IgnoresReclaims n ms
 
 -- in every told history restarts are as the history says
 abbrev pub RestartLaw : Type 0
-RestartLaw = (n : Limits) (ms : List Made) → Told n ms → Restarts n ms
+RestartLaw = (n : Limits) (ms : List Made) → IsTold n ms → RestartsIfOverwritten n ms
 
 -- in every told history full is said only if it must be
 abbrev pub FullLaw : Type 0
-FullLaw = (n : Limits) (ms : List Made) → Told n ms → Fulls n ms
+FullLaw = (n : Limits) (ms : List Made) → IsTold n ms → IsFullIfShort n ms
 
 -- every told history has all five
 abbrev pub Law : Type 0
-Law = (n : Limits) (ms : List Made) → Told n ms → Lawful n ms (λ k. newest_value k (after n ms).versions)
+Law = (n : Limits) (ms : List Made) → IsTold n ms → IsLawfulHistory n ms (λ k. newest_value k (after n ms).versions)
 
 -- Ticks
 
 -- the tick that a deed drew
 abbrev pub ticks_in : Deed → List ℕ
-ticks_in (begins kind h) = h ∷ []
+ticks_in (begins kind h) = start_of h ∷ []
 ticks_in (commits h t) = t ∷ []
 ticks_in _ = []
 
@@ -114,29 +114,29 @@ down_from (suc n) = suc n ∷ down_from n
 
 -- the begins and the commits of a history draw the ticks 1, 2, .. up to the clock, each once
 abbrev pub TickLaw : Type 0
-TickLaw = (n : Limits) (ms : List Made) → Told n ms → drawn ms ≡ down_from (after n ms).clock
+TickLaw = (n : Limits) (ms : List Made) → IsTold n ms → drawn ms ≡ down_from (after n ms).clock
 
 -- One moment
 
 -- a read under a reader's handle, the newest call of the history
 abbrev pub read_now : ℕ → ℕ → ℕ → List ℕ → List ℕ → Made
-read_now h k c b b' = record { call = Call.Read h k c; given = b; answer = Ok (Done.Read c); left = b' }
+read_now h k c b b' = call_made (Call.Read h k c) b (Ok (Done.Read c)) b'
 
 -- a reader is shown the serial table as it was when the reader began, whatever was committed since
 abbrev pub MomentLaw : Type 0
 MomentLaw = (n : Limits) (ms : List Made) (h k c : ℕ) (b b' : List ℕ)
-    → Told n (read_now h k c b b' ∷ ms) → updater_in h ms ≡ false
-    → b' ≡ map (table ms (h - 1)) (range_with_len k c) ++ drop c b
+    → IsTold n (read_now h k c b b' ∷ ms) → updater_in h ms ≡ false
+    → b' ≡ map (table ms (start_of h - 1)) (range_with_len k c) ++ drop c b
 
 -- Over the ledgers that calls lead to
 
 -- starts and stamps are distinct and at most the clock, lists keep to their limits, and a removed version is dead
 abbrev pub OrderLaw : Type 0
-OrderLaw = (l : Ledger) → Reached l → Orderly l
+OrderLaw = (l : Ledger) → IsReached l → IsOrderly l
 
 -- what is dead stays dead
 abbrev pub DeathLaw : Type 0
-DeathLaw = (l : Ledger) → Reached l → (c : Call) (b : List ℕ) (v : Version)
+DeathLaw = (l : Ledger) → IsReached l → (c : Call) (b : List ℕ) (v : Version)
     → dead l v ≡ true → dead (step l c b).ledger v ≡ true
 
 -- a refused call leaves ledger and buffer as they were
@@ -155,35 +155,35 @@ idle_answer Call.Reclaim = Ok (Done.Reclaimed 0)
 
 -- without a tick nothing ever begins
 abbrev pub IdleLaw : Type 0
-IdleLaw = (l : Ledger) → Reached l → l.limits.last ≡ 0 → (c : Call) (b : List ℕ)
+IdleLaw = (l : Ledger) → IsReached l → l.limits.last ≡ 0 → (c : Call) (b : List ℕ)
     → ((step l c b).answer ≡ idle_answer c) × ((step l c b).buffer ≡ b) × ((step l c b).ledger.active ≡ []) × ((step l c b).ledger.versions ≡ [])
 
 -- what a version tells of its key, in a cell or not
-pub record Revision : Type 0 where
+pub record StampedValue : Type 0 where
   pub stamp : ℕ
   pub value : ℕ
 
 -- the newest version of a key stamped below a tick
-abbrev pub newest_below : ℕ → ℕ → List Version → Option Revision
+abbrev pub newest_below : ℕ → ℕ → List Version → Option StampedValue
 newest_below k t [] = None
 newest_below k t (v ∷ vs) = if v.key == k && nat_lt v.stamp t then Some (record { stamp = v.stamp; value = v.value }) else newest_below k t vs
 
 -- once every tick below t is drawn, the newest version below t never changes
 abbrev pub PastLaw : Type 0
-PastLaw = (l : Ledger) → Reached l → (c : Call) (b : List ℕ) (k t : ℕ)
+PastLaw = (l : Ledger) → IsReached l → (c : Call) (b : List ℕ) (k t : ℕ)
     → t ≤ l.clock + 1 → newest_below k t (step l c b).ledger.versions ≡ newest_below k t l.versions
 
 -- no verdict depends on the reclaims made, full among them
 abbrev pub VerdictLaw : Type 0
-VerdictLaw = (l : Ledger) → Reached l → (h : ℕ) (b : List ℕ)
+VerdictLaw = (l : Ledger) → IsReached l → (h : ℕ) (b : List ℕ)
     → (step (reclaimed l) (Call.Commit h) b).answer ≡ (step l (Call.Commit h) b).answer
 
 -- a restart names a stamp above its transaction's start, of a tick drawn
 abbrev pub StampLaw : Type 0
-StampLaw = (l : Ledger) → Reached l → (h k s : ℕ) (b : List ℕ)
-    → (step l (Call.Commit h) b).answer ≡ Ok (Done.Ended (Restart k s)) → (h < s) × (s ≤ l.clock)
+StampLaw = (l : Ledger) → IsReached l → (h k s : ℕ) (b : List ℕ)
+    → (step l (Call.Commit h) b).answer ≡ Ok (Done.Ended (Restart k s)) → (start_of h < s) × (s ≤ l.clock)
 
 -- an updater that read nothing is never restarted
 abbrev pub BlindLaw : Type 0
-BlindLaw = (l : Ledger) → Reached l → (h k s : ℕ) (b : List ℕ) (t : Transaction)
+BlindLaw = (l : Ledger) → IsReached l → (h k s : ℕ) (b : List ℕ) (t : Transaction)
     → found l.active h ≡ Some t → t.reads ≡ [] → (step l (Call.Commit h) b).answer ≢ Ok (Done.Ended (Restart k s))

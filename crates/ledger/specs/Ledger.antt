@@ -39,11 +39,11 @@ pub record Ledger : Type 0 where
   -- newest first
   pub versions : List Version
   -- the greatest tick trimmed at
-  pub trimmed : ℕ
+  pub trimmed_at : ℕ
 
 -- nothing has begun, and nothing is committed
 abbrev pub new_ledger : Limits → Ledger
-new_ledger n = record { limits = n; clock = 0; active = []; versions = []; trimmed = 0 }
+new_ledger n = record { limits = n; clock = 0; active = []; versions = []; trimmed_at = 0 }
 
 -- an engine set up wrongly has no keys, no cells and no ticks
 abbrev pub no_limits : Limits
@@ -54,6 +54,10 @@ no_limits = record { keys = 0; cells = 0; last = 0; granule = λ k. k }
 -- the handle that names it: its start tick
 abbrev pub handle_of : Transaction → ℕ
 handle_of t = t.start
+
+-- the tick at which the transaction with this handle began: the handle names it
+abbrev pub start_of : ℕ → ℕ
+start_of h = h
 
 -- the moment that a reader reads as of: its start tick
 abbrev pub moment_of : Transaction → ℕ
@@ -68,10 +72,14 @@ abbrev pub is_reader : Kind → Bool
 is_reader Reader = true
 is_reader Updater = false
 
--- the least start tick of the active transactions of these kinds, or the given tick without any
+-- the least tick that f gives for the active transactions of these kinds, or the given tick without any
+abbrev pub least_by : (Transaction → ℕ) → (Kind → Bool) → ℕ → List Transaction → ℕ
+least_by f p none [] = none
+least_by f p none (t ∷ ts) = if p t.kind then min (f t) (least_by f p none ts) else least_by f p none ts
+
+-- the least start tick
 abbrev pub least_start : (Kind → Bool) → ℕ → List Transaction → ℕ
-least_start p none [] = none
-least_start p none (t ∷ ts) = if p t.kind then min t.start (least_start p none ts) else least_start p none ts
+least_start p none ts = least_by (λ t. t.start) p none ts
 
 -- no active updater began before it
 abbrev pub trim_tick : Ledger → ℕ
@@ -83,13 +91,17 @@ trim_tick l = least_start (λ k. not (is_reader k)) (l.clock + 1) l.active
 abbrev pub Outlook : Type 0
 Outlook = ℕ
 
--- no active reader looks below it
+-- no active reader reads as of a moment below it
 abbrev pub outlook : Ledger → Outlook
-outlook l = least_start is_reader (l.clock + 1) l.active
+outlook l = least_by moment_of is_reader (l.clock + 1) l.active
 
--- no moment of the outlook chooses the version: another is of its key, newer, and stamped below all of them
+-- w is of the key of v, newer, and stamped below every moment of the outlook
+abbrev pub is_hidden_by : Outlook → Version → Version → Bool
+is_hidden_by o v w = w.key == v.key && (nat_lt v.stamp w.stamp && nat_lt w.stamp o)
+
+-- no moment of the outlook chooses the version: it is hidden by another
 abbrev pub unseen : Outlook → List Version → Version → Bool
-unseen o vs v = list_any (λ w. w.key == v.key && (nat_lt v.stamp w.stamp && nat_lt w.stamp o)) vs
+unseen o vs v = list_any (is_hidden_by o v) vs
 
 -- no active transaction, and none that is to come, reads it
 abbrev pub dead : Ledger → Version → Bool

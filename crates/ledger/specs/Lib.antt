@@ -5,6 +5,6 @@ pub mod Reach
 pub mod Orderly
 pub mod History
 pub mod Serial
-pub mod Clashes
+pub mod Restarts
 pub mod Laws
 pub mod Examples

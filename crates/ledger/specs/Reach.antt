@@ -5,6 +5,6 @@ use Rattle.ledger.specs.Ledger.{Limits, Ledger, new_ledger}
 use Rattle.ledger.specs.Calls.{step}
 
 -- a new ledger, and each that a call leads to
-pub data Reached : Ledger → Type 0 where
-  new : (n : Limits) → Reached (new_ledger n)
-  next : {l : Ledger} (c : Call) (b : List ℕ) → Reached l → Reached (step l c b).ledger
+pub data IsReached : Ledger → Type 0 where
+  new : (n : Limits) → IsReached (new_ledger n)
+  next : {l : Ledger} (c : Call) (b : List ℕ) → IsReached l → IsReached (step l c b).ledger

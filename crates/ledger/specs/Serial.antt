@@ -1,7 +1,7 @@
 -- The serial table: the transactions of a history run on it one at a time.
 use Rattle.std.specs.Prelude.{ℕ, zero, suc, if◌then◌else◌, List, [], ◌∷◌, ◌++◌, map, Some, None, Option, ◌==◌}
 use Rattle.std.specs.List.{range_with_len}
-use Rattle.ledger.specs.History.{Made, Operation, look, put, operations, stands_at}
+use Rattle.ledger.specs.History.{Made, Operation, read_range, write_key, operations, stands_at}
 
 -- one value for each key
 abbrev pub Table : Type 0
@@ -9,8 +9,8 @@ Table = ℕ → ℕ
 
 -- the table after an operation: a write sets its key's value
 abbrev pub applied : Operation → Table → Table
-applied (look k n) v = v
-applied (put k x) v = λ j. if j == k then x else v j
+applied (read_range k n) v = v
+applied (write_key k x) v = λ j. if j == k then x else v j
 
 -- the table once these operations are done on it, one after another
 abbrev pub run : List Operation → Table → Table
@@ -19,8 +19,8 @@ run (o ∷ more) v = run more (applied o v)
 
 -- a read gives the values of its range by rising key
 abbrev pub values_in : Operation → Table → List (List ℕ)
-values_in (look k n) v = map v (range_with_len k n) ∷ []
-values_in (put k x) v = []
+values_in (read_range k n) v = map v (range_with_len k n) ∷ []
+values_in (write_key k x) v = []
 
 -- what the reads among these operations give, run in their order
 abbrev pub run_reads : List Operation → Table → List (List ℕ)

@@ -1,6 +1,13 @@
 //! The laws of the calls, each the contract of a function: it is proved, or the crate is not.
+ghost use Rattle.std.specs.Prelude.{◌≡◌};
+ghost use Rattle.ledger.specs.declared.TheConstants.{MAX_ACTIVE, MAX_READS, MAX_WRITES};
 ghost use Rattle.ledger.specs.Examples.{Examples};
 ghost use Rattle.ledger.specs.Laws.{Law, SerialLaw, TimeLaw, ReclaimLaw, RestartLaw, FullLaw, MomentLaw, TickLaw, OrderLaw, DeathLaw, RefusalLaw, IdleLaw, PastLaw, VerdictLaw, StampLaw, BlindLaw};
+
+/// At most 16 are active, each with at most 32 ranges read and 32 keys written.
+pub fn limits_are_sixteen_and_thirty_two()
+    ensures { (MAX_ACTIVE ≡ 16) × (MAX_READS ≡ 32) × (MAX_WRITES ≡ 32) }
+{}
 
 /// The worked examples.
 pub fn examples_hold()

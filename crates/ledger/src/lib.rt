@@ -6,6 +6,9 @@ use refusals::{Refusal, Report};
 
 pub mod laws;
 
+/// The calls of the engine, and its set-up, are the third layer.
+pub const LAYER: u8 = 3;
+
 /// The most transactions that are active at once.
 pub const MAX_ACTIVE: usize = 16;
 
@@ -47,7 +50,7 @@ pub enum Done {
 #[derive(Clone, Copy, Debug, PartialEq, Eq)]
 pub enum Verdict {
     Closed,
-    /// The first key read that clashes, and the stamp of its granule.
+    /// The first key read whose granule was written since, and the stamp of that granule.
     Restart { key: u16, stamp: u32 },
     Spent,
     /// The number of writes, and the free cells.
@@ -100,7 +103,7 @@ impl Refusal for Fault {
             Fault::WriteListFull { handle } => (14, u64::from(handle)),
         };
         Report {
-            layer: 3,
+            layer: LAYER,
             number,
             place,
         }

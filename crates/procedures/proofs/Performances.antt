@@ -1,6 +1,6 @@
 -- An engine carries out a call, and one procedure after another.
+use Rattle.refusals.specs.Results.{result_map}
 use Rattle.std.proofs.Common.{◌≡◌, ℕ, List, [], ◌∷◌, ◌++◌, Ok, Err, Result, sym, refl, ap, ◌∙◌, subst, append_assoc}
-use Rattle.std.specs.Result.{result_map_both}
 use Rattle.ledger.specs.declared.Kind.{Kind}
 use Rattle.ledger.specs.declared.Call.{Call}
 use Rattle.ledger.specs.declared.Call.TheVariants.{Begin, Read, Write, Commit, Abort, Reclaim}
@@ -10,14 +10,14 @@ use Rattle.ledger.specs.declared.Done.{Done}
 use Rattle.ledger.specs.declared.Done.TheVariants.{Began, Read as ReadDone, Wrote, Ended, Aborted, Reclaimed}
 use Rattle.ledger.specs.Ledger.{Limits, Ledger}
 use Rattle.ledger.specs.Calls.{step}
-use Rattle.ledger.specs.History.{Made, after}
-use Rattle.versions.specs.Meaning.{Store}
-use Rattle.validation.specs.Meaning.{Stamps}
+use Rattle.ledger.specs.History.{after_more, call_made, Made, after}
+use Rattle.versions.specs.Stores.{Store}
+use Rattle.validation.specs.Stamps.{Stamps}
 use Rattle.engine.specs.declared.engine.Engine.{Engine}
 use Rattle.engine.specs.Parts.{FitsEngine, store_of, validator_of, table_of}
-use Rattle.engine.specs.Steps.{Lawfully, Refines, RefinesUnlent, Idle, answer_by, call_made}
+use Rattle.engine.specs.Steps.{LeadsLawfullyTo, Refines, RefinesUnlent, StaysIdle}
 use Rattle.engine.proofs.Histories.{goes_on, lawful_in}
-use Rattle.procedures.specs.Procedures.{Procedure, after_more, pure, ◌>>=◌, lent_call, unlent_call, handle_in, verdict_in, count_in, begin, read, write, commit, abort, reclaim, Performs}
+use Rattle.procedures.specs.Procedures.{Procedure, pure, ◌>>=◌, lent_call, unlent_call, handle_in, verdict_in, count_in, begin, read, write, commit, abort, reclaim, Performs}
 
 -- the ledger after a history and more calls
 after_all : (n : Limits) (ms cs : List Made) → after n (cs ++ ms) ≡ after_more (after n ms) cs
@@ -29,7 +29,7 @@ after_parts l cs [] = refl
 after_parts l cs (d ∷ ds) = ap (λ k. (step k d.call d.given).ledger) (after_parts l cs ds)
 
 -- what g reads back from the answer that a result is
-read_back : {X : Type 0} (f : X → Done) (g : Done → X) → ((x : X) → g (f x) ≡ x) → (r : Result X Fault) → result_map_both g (λ e. e) (answer_by f r) ≡ r
+read_back : {X : Type 0} (f : X → Done) (g : Done → X) → ((x : X) → g (f x) ≡ x) → (r : Result X Fault) → result_map g (result_map f r) ≡ r
 read_back f g reads (Ok x) = ap Ok (reads x)
 read_back f g reads (Err fault) = refl
 
@@ -52,7 +52,7 @@ module _ {S V : Type 0} {m : S → Store} {p : V → Stamps} where
         history = λ n ms led.
             let l = after n ms in
             let cs = (f l).calls in
-            subst (λ hs. Lawfully m p n hs e'')
+            subst (λ hs. LeadsLawfullyTo m p n hs e'')
             (ap (λ k. (g x k).calls ++ (cs ++ ms)) (after_all n ms cs)
             ∙ ap (λ z. (g z (after_more l cs)).calls ++ (cs ++ ms)) (first.answer l led.1)
             ∙ sym (append_assoc (g (f l).answer (after_more l cs)).calls cs ms))
@@ -64,39 +64,39 @@ module _ {S V : Type 0} {m : S → Store} {p : V → Stamps} where
       }
 
   -- a call whose answer is a result told by f, which g reads back
-  performs_lent : {X : Type 0} {e e' : Engine S V} {c : Call} {b b' : List ℕ} (f : X → Done) (g : Done → X) → ((x : X) → g (f x) ≡ x) → (r : Result X Fault) → Refines m p e e' c b (answer_by f r) b' → Idle e e' → Performs m p e e' (lent_call c b g) (r, b')
+  performs_lent : {X : Type 0} {e e' : Engine S V} {c : Call} {b b' : List ℕ} (f : X → Done) (g : Done → X) → ((x : X) → g (f x) ≡ x) → (r : Result X Fault) → Refines m p e e' c b (result_map f r) b' → StaysIdle e e' → Performs m p e e' (lent_call c b g) (r, b')
   unfolding lent_call
   performs_lent {e = e} {e'} {c} {b} {b'} f g reads r refines still =
       record {
         answer = λ l fits.
             let q = refines l fits in
-            ap (λ z. (z, b')) (sym (read_back f g reads r) ∙ ap (result_map_both g (λ e. e)) q.answer) ∙ ap (λ z. (result_map_both g (λ e. e) (step l c b).answer, z)) q.buffer;
+            ap (λ z. (z, b')) (sym (read_back f g reads r) ∙ ap (result_map g) q.answer) ∙ ap (λ z. (result_map g (step l c b).answer, z)) q.buffer;
         ledger = λ l fits. (refines l fits).after;
         history = λ n ms led.
             let q = refines (after n ms) led.1 in
-            subst (λ hs. Lawfully m p n hs e')
+            subst (λ hs. LeadsLawfullyTo m p n hs e')
             (ap (λ z. call_made c b z b' ∷ ms) q.answer ∙ ap (λ z. call_made c b (step (after n ms) c b).answer z ∷ ms) q.buffer)
-            (goes_on m p e e' c b (answer_by f r) b' refines n ms led);
+            (goes_on m p e e' c b (result_map f r) b' refines n ms led);
         idle = still;
       }
 
   -- the same of a call that is lent no buffer
-  performs_unlent : {X : Type 0} {e e' : Engine S V} {c : Call} (f : X → Done) (g : Done → X) → ((x : X) → g (f x) ≡ x) → (r : Result X Fault) → RefinesUnlent m p e e' c (answer_by f r) → Idle e e' → Performs m p e e' (unlent_call c g) r
+  performs_unlent : {X : Type 0} {e e' : Engine S V} {c : Call} (f : X → Done) (g : Done → X) → ((x : X) → g (f x) ≡ x) → (r : Result X Fault) → RefinesUnlent m p e e' c (result_map f r) → StaysIdle e e' → Performs m p e e' (unlent_call c g) r
   performs_unlent f g reads r refines still = performs_on _ (performs_lent f g reads r (refines []) still) (performs_pure r)
 
-  pub performs_begin : {e e' : Engine S V} {kind : Kind} (r : Result ℕ Fault) → RefinesUnlent m p e e' (Begin kind) (answer_by Began r) → Idle e e' → Performs m p e e' (begin kind) r
+  pub performs_begin : {e e' : Engine S V} {kind : Kind} (r : Result ℕ Fault) → RefinesUnlent m p e e' (Begin kind) (result_map Began r) → StaysIdle e e' → Performs m p e e' (begin kind) r
   performs_begin r refines still = performs_unlent Began handle_in (λ h. refl) r refines still
 
-  pub performs_read : {e e' : Engine S V} {h k n : ℕ} {b b' : List ℕ} (r : Result (Unit {0}) Fault) → Refines m p e e' (Read h k n) b (answer_by (λ _. ReadDone n) r) b' → Idle e e' → Performs m p e e' (read h k n b) (r, b')
+  pub performs_read : {e e' : Engine S V} {h k n : ℕ} {b b' : List ℕ} (r : Result (Unit {0}) Fault) → Refines m p e e' (Read h k n) b (result_map (λ _. ReadDone n) r) b' → StaysIdle e e' → Performs m p e e' (read h k n b) (r, b')
   performs_read {n = n} r refines still = performs_lent (λ _. ReadDone n) (λ _. tt) (λ _. refl) r refines still
 
-  pub performs_write : {e e' : Engine S V} {h k x : ℕ} (r : Result (Unit {0}) Fault) → RefinesUnlent m p e e' (Write h k x) (answer_by (λ _. Wrote) r) → Idle e e' → Performs m p e e' (write h k x) r
+  pub performs_write : {e e' : Engine S V} {h k x : ℕ} (r : Result (Unit {0}) Fault) → RefinesUnlent m p e e' (Write h k x) (result_map (λ _. Wrote) r) → StaysIdle e e' → Performs m p e e' (write h k x) r
   performs_write r refines still = performs_unlent (λ _. Wrote) (λ _. tt) (λ _. refl) r refines still
 
-  pub performs_commit : {e e' : Engine S V} {h : ℕ} (r : Result Verdict Fault) → RefinesUnlent m p e e' (Commit h) (answer_by Ended r) → Idle e e' → Performs m p e e' (commit h) r
+  pub performs_commit : {e e' : Engine S V} {h : ℕ} (r : Result Verdict Fault) → RefinesUnlent m p e e' (Commit h) (result_map Ended r) → StaysIdle e e' → Performs m p e e' (commit h) r
   performs_commit r refines still = performs_unlent Ended verdict_in (λ v. refl) r refines still
 
-  pub performs_abort : {e e' : Engine S V} {h : ℕ} (r : Result (Unit {0}) Fault) → RefinesUnlent m p e e' (Abort h) (answer_by (λ _. Aborted) r) → Idle e e' → Performs m p e e' (abort h) r
+  pub performs_abort : {e e' : Engine S V} {h : ℕ} (r : Result (Unit {0}) Fault) → RefinesUnlent m p e e' (Abort h) (result_map (λ _. Aborted) r) → StaysIdle e e' → Performs m p e e' (abort h) r
   performs_abort r refines still = performs_unlent (λ _. Aborted) (λ _. tt) (λ _. refl) r refines still
 
   pub performs_reclaim : {e e' : Engine S V} (n : ℕ) → RefinesUnlent m p e e' Reclaim (Ok (Reclaimed n)) → ((table_of e).last ≡ 0 → (n ≡ 0) × (e' ≡ e)) → Performs m p e e' reclaim n

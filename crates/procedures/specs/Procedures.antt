@@ -1,6 +1,7 @@
 -- Procedures: what is done on a ledger by calls, one after another, and when an engine carried one out.
 use Rattle.std.specs.Prelude.{◌≡◌, ℕ, List, [], ◌∷◌, ◌++◌, Ok, Err, Result}
-use Rattle.std.specs.Result.{result_map_both, result_unwrap_or}
+use Rattle.std.specs.Result.{result_unwrap_or}
+use Rattle.refusals.specs.Results.{result_map}
 use Rattle.ledger.specs.declared.Kind.{Kind}
 use Rattle.ledger.specs.declared.Call.{Call}
 use Rattle.ledger.specs.declared.Call.TheVariants.{Begin, Read, Write, Commit, Abort, Reclaim}
@@ -11,26 +12,21 @@ use Rattle.ledger.specs.declared.Done.{Done}
 use Rattle.ledger.specs.declared.Done.TheVariants.{Began, Ended, Reclaimed}
 use Rattle.ledger.specs.Ledger.{Limits, Ledger}
 use Rattle.ledger.specs.Calls.{step}
-use Rattle.ledger.specs.History.{Made, after}
-use Rattle.versions.specs.Meaning.{Store}
-use Rattle.validation.specs.Meaning.{Stamps}
+use Rattle.ledger.specs.History.{Made, call_made, after_more, after}
+use Rattle.versions.specs.Stores.{Store}
+use Rattle.validation.specs.Stamps.{Stamps}
 use Rattle.engine.specs.declared.engine.Engine.{Engine}
 use Rattle.engine.specs.Parts.{FitsEngine}
-use Rattle.engine.specs.Steps.{Led, Lawfully, Idle, call_made}
+use Rattle.engine.specs.Steps.{LeadsTo, LeadsLawfullyTo, StaysIdle}
 
 -- what is answered, and the calls made for it, the newest first: the ledger afterwards is the one that they lead to
-pub record Run (X : Type 0) : Type 0 where
+pub record Performance (X : Type 0) : Type 0 where
   pub answer : X
   pub calls : List Made
 
 -- a procedure tells its run on each ledger
 abbrev pub Procedure : Type 0 → Type 0
-Procedure X = Ledger → Run X
-
--- the ledger after more calls, the newest first
-abbrev pub after_more : Ledger → List Made → Ledger
-after_more l [] = l
-after_more l (c ∷ cs) = (step (after_more l cs) c.call c.given).ledger
+Procedure X = Ledger → Performance X
 
 -- no call
 unfoldable pub pure : {X : Type 0} → X → Procedure X
@@ -52,7 +48,7 @@ unfoldable pub lent_call : {X : Type 0} → Call → List ℕ → (Done → X)
 lent_call c b f l =
     let o = step l c b in
     record {
-      answer = (result_map_both f (λ e. e) o.answer, o.buffer);
+      answer = (result_map f o.answer, o.buffer);
       calls = call_made c b o.answer o.buffer ∷ [];
     }
 
@@ -117,6 +113,6 @@ pub record Performs {S V X : Type 0} (m : S → Store) (p : V → Stamps) (e e' 
   pub answer : (l : Ledger) → FitsEngine m p l e → x ≡ (f l).answer
   pub ledger : (l : Ledger) → FitsEngine m p l e → FitsEngine m p (after_more l (f l).calls) e'
   -- each history that led to the engine before goes on with the calls, leads to the engine afterwards, and is lawful
-  pub history : (n : Limits) (ms : List Made) → Led m p n ms e → Lawfully m p n ((f (after n ms)).calls ++ ms) e'
+  pub history : (n : Limits) (ms : List Made) → LeadsTo m p n ms e → LeadsLawfullyTo m p n ((f (after n ms)).calls ++ ms) e'
   -- an engine from a refused set-up touches neither store nor validator
-  pub idle : Idle e e'
+  pub idle : StaysIdle e e'

@@ -7,9 +7,9 @@ use ledger::{Fault, Kind, Verdict};
 use validation::validator::Validator;
 use versions::store::VersionStore;
 
-/// Begins an updater, and reads the values of count keys from the first on into the front of the buffer: keys of
-/// the table, and a buffer that is no shorter than the count. Gives the updater's handle, or the fault of the begin
-/// or of the read; a refusal leaves no updater behind and the buffer as it was.
+/// Begins an updater, and reads the values of count keys from the first on into the front of the buffer. Gives the
+/// updater's handle, or the fault of the begin or of the read, as of a range that reaches beyond the table or of a
+/// buffer shorter than the count; a refusal leaves no updater behind and the buffer as it was.
 pub fn begin_with_read<S: VersionStore, V: Validator>(
     engine: &mut Engine<S, V>,
     first: u16,
@@ -28,8 +28,8 @@ pub fn begin_with_read<S: VersionStore, V: Validator>(
     Ok(handle)
 }
 
-/// Writes a value to a key of the table under an active updater with room in its write list, and commits that.
-/// Gives the verdict, or the fault of the write or of the commit; a write that is refused aborts the transaction.
+/// Writes a value to a key under an updater, and commits that. Gives the verdict, or the fault of the write or of the
+/// commit, as of a key outside the table or new to a full write list; a write that is refused aborts the transaction.
 pub fn commit_with_write<S: VersionStore, V: Validator>(
     engine: &mut Engine<S, V>,
     handle: u32,

@@ -12,10 +12,10 @@ use Rattle.records.specs.declared.codec.Fields.{Fields}
 use Rattle.records.specs.Format.{call_of, fields_of, laid_out, with_fields, decoded}
 
 -- the bytes behind the first twelve
-abbrev pub behind : List ℕ → List ℕ
-behind b = take (length b - 12) (drop 12 b)
+abbrev pub value_bytes : List ℕ → List ℕ
+value_bytes b = take (length b - 12) (drop 12 b)
 
-pub twenty : (b : List ℕ) → length (behind b) ≡ 8 → length b ≡ 20
+pub twenty : (b : List ℕ) → length (value_bytes b) ≡ 8 → length b ≡ 20
 twenty b e = omega (arith, simp (length-take, length-drop) at e)
 
 -- a slice that became an array is as long as that, and the same
@@ -25,7 +25,7 @@ whole xs ys (Err x) m e = absurd (cc)
 
 -- the call that the fields say, of twenty bytes with zeros where no field stands
 pub decoded_fields : (b : List ℕ) → length b ≡ 20 → get_or b 1 0 ≡ 0 → get_or b 6 0 ≡ 0 → get_or b 7 0 ≡ 0 →
-    call_of (with_fields (get_or b 0 0) (from_le_bytes w16 (get_or b 2 0 ∷ get_or b 3 0 ∷ [])) (from_le_bytes w16 (get_or b 4 0 ∷ get_or b 5 0 ∷ [])) (from_le_bytes w32 (get_or b 8 0 ∷ get_or b 9 0 ∷ get_or b 10 0 ∷ get_or b 11 0 ∷ [])) (from_le_bytes w64 (behind b))) ≡ decoded b
+    call_of (with_fields (get_or b 0 0) (from_le_bytes w16 (get_or b 2 0 ∷ get_or b 3 0 ∷ [])) (from_le_bytes w16 (get_or b 4 0 ∷ get_or b 5 0 ∷ [])) (from_le_bytes w32 (get_or b 8 0 ∷ get_or b 9 0 ∷ get_or b 10 0 ∷ get_or b 11 0 ∷ [])) (from_le_bytes w64 (value_bytes b))) ≡ decoded b
 decoded_fields (b0 ∷ b1 ∷ b2 ∷ b3 ∷ b4 ∷ b5 ∷ b6 ∷ b7 ∷ b8 ∷ b9 ∷ b10 ∷ b11 ∷ b12 ∷ b13 ∷ b14 ∷ b15 ∷ b16 ∷ b17 ∷ b18 ∷ b19 ∷ []) l x y z = rw (eq-eqb b1 0 x, eq-eqb b6 0 y, eq-eqb b7 0 z) refl
 decoded_fields _ l x y z = absurd (omega arith)
 

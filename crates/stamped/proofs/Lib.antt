@@ -1,2 +1,2 @@
 pub mod Closings
-pub mod LookUps
+pub mod Lookups

@@ -1,4 +1,4 @@
-pub mod Look
+pub mod Lookups
 pub mod Gaps
 pub mod Packing
 pub mod Sizes

@@ -9,8 +9,8 @@ pub record Packing (X : Type 0) : Type 0 where
   pub rest : List X
 
 -- the places in all
-abbrev pub room : {X : Type 0} → Packing X → ℕ
-room p = length p.records + length p.rest
+abbrev pub capacity : {X : Type 0} → Packing X → ℕ
+capacity p = length p.records + length p.rest
 
 -- the records that stay; the places that they gave up lead the rest, with what stood there before
 abbrev pub closed_packing : {X : Type 0} → (X → List X → Bool) → Packing X → Packing X

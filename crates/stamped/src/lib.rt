@@ -2,14 +2,24 @@
 //! for every kind of them.
 #![tactic(auto)]
 
-pub mod closing;
-pub mod looking;
+pub mod gaps;
+pub mod lookup;
 pub mod packed;
 
 ghost use Rattle.std.specs.Prelude.{◌≡◌, ℕ};
+ghost use Rattle.stamped.specs.Sizes.{keys_outside};
 
 /// The most keys that a version store or a validator has.
 pub const MAX_KEYS: u16 = 1024;
+
+/// Whether no store and no validator has so many keys: none, or more than `MAX_KEYS`.
+pub fn keys_outside(keys: u16) -> bool
+    ensures answer { result ≡ keys_outside keys }
+    // The definitions cite it by its name.
+    ensures limit { MAX_KEYS ≡ 1024 }
+{
+    keys == 0 || keys > MAX_KEYS
+}
 
 /// A record that carries a key and a stamp. Each kind of record shows its own two fields.
 pub trait Stamped {

@@ -3,7 +3,7 @@ ghost use Rattle.stamped.specs.Gaps.{closed, closed_places};
 ghost use Rattle.stamped.specs.Packing.{Packing, closed_packing};
 
 use crate::Stamped;
-use crate::closing::{Drops, close_gaps};
+use crate::gaps::{Drops, close_gaps};
 use std::marker::Model;
 
 /// Records at the front of lent places, in the order of adding. A length beside a lent slice, and no `Vec`,

@@ -8,16 +8,16 @@ use Rattle.std.proofs.lemmas.Option.{slice_get_cases}
 use Rattle.std.proofs.lemmas.List.Quantifiers.{position-Some}
 use Rattle.std.proofs.lemmas.Iterator.Adapters.{position_from-zero}
 use Rattle.ledger.specs.declared.Fault.{Fault}
-use Rattle.transaction_table.specs.Places.{first_changed}
+use Rattle.transaction_table.specs.Slots.{first_changed}
 
 -- the element where the search ended
-pub record Passing {X : Type 0} (p : X → Bool) (xs : List X) (i : ℕ) : Type 0 where
+pub record PassesAt {X : Type 0} (p : X → Bool) (xs : List X) (i : ℕ) : Type 0 where
   pub at : X
   pub reads : slice_get xs i ≡ Some at
   pub within : i < length xs
   pub passes : p at ≡ true
 
-pub passing : {X : Type 0} (p : X → Bool) (xs : List X) (i : ℕ) (d : X) → Some i ≡ position p xs → Passing p xs i
+pub passing : {X : Type 0} (p : X → Bool) (xs : List X) (i : ℕ) (d : X) → Some i ≡ position p xs → PassesAt p xs i
 passing p xs i d e = elim (slice_get_cases xs i).1 [
   | inl (at, within, reads, same) ↦ record { at = at; reads = reads; within = within; passes = ap p (sym same) ∙ (position-Some p xs i at (sym e)).1 }
   | inr past ↦ absurd (omega (arith, past.0, (position-Some p xs i d (sym e)).0))

@@ -6,31 +6,31 @@ use Rattle.std.proofs.lemmas.Option.{get_or_from_slice_get, none-some}
 use Rattle.std.specs.List.{AllByRecursion, slice_get, fold, position, position_from}
 use Rattle.ledger.specs.Calls.{fresh, without, changed}
 use Rattle.std.specs.Option.{is_some}
-use Rattle.transaction_table.specs.Shuffle.{Shuffle, keep, swap, join}
-use Rattle.ledger.specs.Orderly.{Apart}
+use Rattle.transaction_table.specs.Shuffle.{IsShuffle, keep, swap, join}
+use Rattle.ledger.specs.Orderly.{AreApart}
 use Rattle.transaction_table.proofs.Shuffles.{shuffle_refl}
 use Rattle.ledger.specs.declared.TheConstants.{MAX_ACTIVE}
 use Rattle.ledger.specs.declared.Kind.{Kind}
 use Rattle.ledger.specs.declared.Kind.TheVariants.{Reader as Reads, Updater as Updates}
-use Rattle.ledger.specs.Ledger.{Transaction, found, least_start}
+use Rattle.ledger.specs.Ledger.{Transaction, handle_of, found, least_start}
 use Rattle.transaction_table.specs.declared.record.State.{State}
 use Rattle.transaction_table.specs.declared.record.State.TheVariants.{Free, Reader, Updater}
 use Rattle.transaction_table.specs.declared.record.Record.{Record}
 use Rattle.transaction_table.specs.View.{taken, view, active_of}
-use Rattle.transaction_table.specs.Places.{of_kind, holds_kind, is_free, has_handle, free_record, new_record}
+use Rattle.transaction_table.specs.Slots.{is_of_kind, holds_kind, is_free, has_handle, free_record, new_record}
 use Rattle.transaction_table.proofs.Searches.{passing, nowhere}
 
 -- the record at i is taken, and has this handle
-pub record Here (rs : List Record) (h i : ℕ) : Type 0 where
+pub record IsHere (rs : List Record) (h i : ℕ) : Type 0 where
   pub at : Record
   pub reads : slice_get rs i ≡ Some at
   pub is_taken : taken at.state ≡ true
-  pub has : at.start ≡ h
+  pub has : handle_of (view at) ≡ h
 
-pub active_free : (r : Record) (rs : List Record) → taken r.state ≡ false → active_of (r ∷ rs) ≡ active_of rs
+active_free : (r : Record) (rs : List Record) → taken r.state ≡ false → active_of (r ∷ rs) ≡ active_of rs
 active_free r rs e = rw e
 
-pub active_taken : (r : Record) (rs : List Record) → taken r.state ≡ true → active_of (r ∷ rs) ≡ view r ∷ active_of rs
+active_taken : (r : Record) (rs : List Record) → taken r.state ≡ true → active_of (r ∷ rs) ≡ view r ∷ active_of rs
 active_taken r rs e = rw e
 
 -- a new record has the transaction that begins
@@ -43,7 +43,7 @@ new_taken start Reads = refl
 new_taken start Updates = refl
 
 -- a new transaction in a free place
-pub slots_open : (rs : List Record) (i : ℕ) (at r : Record) → slice_get rs i ≡ Some at → taken at.state ≡ false → taken r.state ≡ true → Shuffle (view r ∷ active_of rs) (active_of (set rs i r))
+pub slots_open : (rs : List Record) (i : ℕ) (at r : Record) → slice_get rs i ≡ Some at → taken at.state ≡ false → taken r.state ≡ true → IsShuffle (view r ∷ active_of rs) (active_of (set rs i r))
 slots_open [] i at r e free on = cc
 slots_open (u ∷ rs) zero at r e free on =
     let same : u ≡ at = cc in
@@ -51,7 +51,7 @@ slots_open (u ∷ rs) zero at r e free on =
     rw (active_free u rs off, active_taken r rs on) (shuffle_refl _)
 slots_open (u ∷ rs) (suc i) at r e free on = go (taken u.state) (slots_open rs i at r e free on)
   where
-    go : (b : Bool) → Shuffle (view r ∷ active_of rs) (active_of (set rs i r)) → Shuffle (view r ∷ cond b (view u ∷ active_of rs) (active_of rs)) (cond b (view u ∷ active_of (set rs i r)) (active_of (set rs i r)))
+    go : (b : Bool) → IsShuffle (view r ∷ active_of rs) (active_of (set rs i r)) → IsShuffle (view r ∷ cond b (view u ∷ active_of rs) (active_of rs)) (cond b (view u ∷ active_of (set rs i r)) (active_of (set rs i r)))
     go true ih = join swap (keep ih)
     go false ih = ih
 
@@ -76,24 +76,24 @@ changed_apart : (ts : List Transaction) (h : ℕ) (f : Transaction → Transacti
 changed_apart [] h f a = refl
 changed_apart (u ∷ ts) h f a = rw (ne_eqb u.start h a.0) (ap (λ us. u ∷ us) (changed_apart ts h f a.1))
 
-pub slots_put : (rs : List Record) (i h : ℕ) (at r : Record) (f : Transaction → Transaction) → slice_get rs i ≡ Some at → taken at.state ≡ true → at.start ≡ h → taken r.state ≡ true → view r ≡ f (view at) → Apart (active_of rs) → active_of (set rs i r) ≡ changed (active_of rs) h f
+pub slots_put : (rs : List Record) (i h : ℕ) (at r : Record) (f : Transaction → Transaction) → slice_get rs i ≡ Some at → taken at.state ≡ true → at.start ≡ h → taken r.state ≡ true → view r ≡ f (view at) → AreApart (active_of rs) → active_of (set rs i r) ≡ changed (active_of rs) h f
 slots_put [] i h at r f e on has off is a = refl
 slots_put (u ∷ rs) zero h at r f e on has off is a =
     let same : u ≡ at = cc in
     let t = active_taken u rs (ap (λ x. taken x.state) same ∙ on) in
     let starts : u.start ≡ h = ap (λ x. x.start) same ∙ has in
-    let b = subst Apart t a in
+    let b = subst AreApart t a in
     rw (active_taken r rs off, t, eq-eqb u.start h starts) (ap (λ v. v ∷ active_of rs) (is ∙ ap (λ x. f (view x)) (sym same)) ∙ ap (λ us. f (view u) ∷ us) (sym (changed_apart (active_of rs) h f (rw starts at b.0))))
 slots_put (u ∷ rs) (suc i) h at r f e on has off is a = go (taken u.state) a (slots_put rs i h at r f e on has off is)
   where
-    go : (b : Bool) → Apart (cond b (view u ∷ active_of rs) (active_of rs)) → (Apart (active_of rs) → active_of (set rs i r) ≡ changed (active_of rs) h f) → cond b (view u ∷ active_of (set rs i r)) (active_of (set rs i r)) ≡ changed (cond b (view u ∷ active_of rs) (active_of rs)) h f
+    go : (b : Bool) → AreApart (cond b (view u ∷ active_of rs) (active_of rs)) → (AreApart (active_of rs) → active_of (set rs i r) ≡ changed (active_of rs) h f) → cond b (view u ∷ active_of (set rs i r)) (active_of (set rs i r)) ≡ changed (cond b (view u ∷ active_of rs) (active_of rs)) h f
     go true q later =
         let ne : u.start ≡ h → ⊥ = λ s. slots_at (λ x. x.start ≡ u.start → ⊥) rs i at e on q.0 (has ∙ sym s) in
         rw (ne_eqb u.start h ne) (ap (λ us. view u ∷ us) (later q.1))
     go false q later = later q
 
 -- the transaction in a place is the one that is found
-pub slots_found : (rs : List Record) (i h : ℕ) (at : Record) → slice_get rs i ≡ Some at → taken at.state ≡ true → at.start ≡ h → Apart (active_of rs) → found (active_of rs) h ≡ Some (view at)
+pub slots_found : (rs : List Record) (i h : ℕ) (at : Record) → slice_get rs i ≡ Some at → taken at.state ≡ true → at.start ≡ h → AreApart (active_of rs) → found (active_of rs) h ≡ Some (view at)
 slots_found [] i h at e on has a = cc
 slots_found (u ∷ rs) zero h at e on has a =
     let same : u ≡ at = cc in
@@ -101,7 +101,7 @@ slots_found (u ∷ rs) zero h at e on has a =
     rw (active_taken u rs (ap (λ x. taken x.state) same ∙ on), eq-eqb u.start h starts) (ap (λ x. Some (view x)) same)
 slots_found (u ∷ rs) (suc i) h at e on has a = go (taken u.state) a (slots_found rs i h at e on has)
   where
-    go : (b : Bool) → Apart (cond b (view u ∷ active_of rs) (active_of rs)) → (Apart (active_of rs) → found (active_of rs) h ≡ Some (view at)) → found (cond b (view u ∷ active_of rs) (active_of rs)) h ≡ Some (view at)
+    go : (b : Bool) → AreApart (cond b (view u ∷ active_of rs) (active_of rs)) → (AreApart (active_of rs) → found (active_of rs) h ≡ Some (view at)) → found (cond b (view u ∷ active_of rs) (active_of rs)) h ≡ Some (view at)
     go true q later =
         let ne : u.start ≡ h → ⊥ = λ s. slots_at (λ x. x.start ≡ u.start → ⊥) rs i at e on q.0 (has ∙ sym s) in
         rw (ne_eqb u.start h ne) (later q.1)
@@ -111,15 +111,15 @@ length_active : (rs : List Record) → length (active_of rs) ≤ length rs
 length_active [] = omega arith
 length_active (r ∷ rs) = let h = length_active rs in cond_both (taken r.state) (view r ∷ active_of rs) (active_of rs) (λ us. length us ≤ suc (length rs)) (λ _. omega arith) (λ _. omega arith)
 
-pub slots_few : (rs : List Record) (i : ℕ) (at : Record) → slice_get rs i ≡ Some at → taken at.state ≡ false → length (active_of rs) < length rs
+slots_few : (rs : List Record) (i : ℕ) (at : Record) → slice_get rs i ≡ Some at → taken at.state ≡ false → length (active_of rs) < length rs
 slots_few [] i at e off = cc
 slots_few (u ∷ rs) zero at e off = let same : u ≡ at = cc in rw (active_free u rs (ap (λ x. taken x.state) same ∙ off)) (omega (arith, length_active rs))
 slots_few (u ∷ rs) (suc i) at e off = let h = slots_few rs i at e off in cond_both (taken u.state) (view u ∷ active_of rs) (active_of rs) (λ us. length us < suc (length rs)) (λ _. omega arith) (λ _. omega arith)
 
-pub least_more : (kind : Kind) (r : Record) (rs : List Record) (n : ℕ) → least_start (of_kind kind) n (active_of (r ∷ rs)) ≡ cond (holds_kind kind r.state) (min r.start (least_start (of_kind kind) n (active_of rs))) (least_start (of_kind kind) n (active_of rs))
+least_more : (kind : Kind) (r : Record) (rs : List Record) (n : ℕ) → least_start (is_of_kind kind) n (active_of (r ∷ rs)) ≡ cond (holds_kind kind r.state) (min r.start (least_start (is_of_kind kind) n (active_of rs))) (least_start (is_of_kind kind) n (active_of rs))
 least_more kind r rs n = go r.state refl
   where
-    go : (s : State) → r.state ≡ s → least_start (of_kind kind) n (active_of (r ∷ rs)) ≡ cond (holds_kind kind s) (min r.start (least_start (of_kind kind) n (active_of rs))) (least_start (of_kind kind) n (active_of rs))
+    go : (s : State) → r.state ≡ s → least_start (is_of_kind kind) n (active_of (r ∷ rs)) ≡ cond (holds_kind kind s) (min r.start (least_start (is_of_kind kind) n (active_of rs))) (least_start (is_of_kind kind) n (active_of rs))
     go Free e = rw e
     go Reader e = rw e
     go Updater e = rw e
@@ -127,7 +127,7 @@ least_more kind r rs n = go r.state refl
 -- Searches
 
 -- where the search for a handle ended, as it is read
-abbrev pub here_from : (rs : List Record) (h i : ℕ) (d : Record) → Some i ≡ position (has_handle h) rs → Here rs h i
+abbrev pub here_from : (rs : List Record) (h i : ℕ) (d : Record) → Some i ≡ position (has_handle h) rs → IsHere rs h i
 here_from rs h i d e =
     let s = passing (has_handle h) rs i d e in
     let same = get_or_from_slice_get rs i s.at d s.reads in
@@ -151,7 +151,7 @@ found_from (r ∷ rs) h n = go (taken r.state) (found_from rs h (n + 1))
     go false later = free (eqb r.start h) later
 
 -- a transaction is active just where a record has its handle
-pub found_position : (rs : List Record) (h : ℕ) → is_some (found (active_of rs) h) ≡ is_some (position (has_handle h) rs)
+found_position : (rs : List Record) (h : ℕ) → is_some (found (active_of rs) h) ≡ is_some (position (has_handle h) rs)
 found_position rs h = found_from rs h 0 ∙ ap is_some (sym (position_from-zero (has_handle h) rs))
 
 -- no record has the handle
@@ -187,17 +187,17 @@ pub roomy : (rs : List Record) (i : ℕ) → length rs ≡ MAX_ACTIVE → Some i
 roomy rs i n e = let v = vacant_at rs i e in lt-leb _ _ (omega (arith, n, slots_few rs i v.0 v.1 v.2))
 
 -- a freed record: its transaction is gone
-pub slots_freed : (rs : List Record) (i h : ℕ) (at r : Record) → slice_get rs i ≡ Some at → taken at.state ≡ true → at.start ≡ h → taken r.state ≡ false → Apart (active_of rs) → active_of (set rs i r) ≡ without (active_of rs) h
+pub slots_freed : (rs : List Record) (i h : ℕ) (at r : Record) → slice_get rs i ≡ Some at → taken at.state ≡ true → at.start ≡ h → taken r.state ≡ false → AreApart (active_of rs) → active_of (set rs i r) ≡ without (active_of rs) h
 slots_freed [] i h at r e on has off a = refl
 slots_freed (u ∷ rs) zero h at r e on has off a =
     let same : u ≡ at = cc in
     let t = active_taken u rs (ap (λ x. taken x.state) same ∙ on) in
     let starts : u.start ≡ h = ap (λ x. x.start) same ∙ has in
-    let b = subst Apart t a in
+    let b = subst AreApart t a in
     rw (active_free r rs off, t, eq-eqb u.start h starts) (sym (kept_apart (active_of rs) h (rw starts at b.0)))
 slots_freed (u ∷ rs) (suc i) h at r e on has off a = go (taken u.state) a (slots_freed rs i h at r e on has off)
   where
-    go : (b : Bool) → Apart (cond b (view u ∷ active_of rs) (active_of rs)) → (Apart (active_of rs) → active_of (set rs i r) ≡ without (active_of rs) h) → cond b (view u ∷ active_of (set rs i r)) (active_of (set rs i r)) ≡ without (cond b (view u ∷ active_of rs) (active_of rs)) h
+    go : (b : Bool) → AreApart (cond b (view u ∷ active_of rs) (active_of rs)) → (AreApart (active_of rs) → active_of (set rs i r) ≡ without (active_of rs) h) → cond b (view u ∷ active_of (set rs i r)) (active_of (set rs i r)) ≡ without (cond b (view u ∷ active_of rs) (active_of rs)) h
     go true q later =
         let ne : u.start ≡ h → ⊥ = λ s. slots_at (λ x. x.start ≡ u.start → ⊥) rs i at e on q.0 (has ∙ sym s) in
         rw (ne_eqb u.start h ne) (ap (λ us. view u ∷ us) (later q.1))
@@ -218,10 +218,10 @@ least_min p n x (t ∷ ts) = go (p t.kind) (least_min p n x ts)
     go false e = e
 
 -- the least start of the records of a kind
-pub least_fold : (kind : Kind) (rs : List Record) (n : ℕ) → fold min n (map (λ r. r.start) (filter (λ r. holds_kind kind r.state) rs)) ≡ least_start (of_kind kind) n (active_of rs)
+pub least_fold : (kind : Kind) (rs : List Record) (n : ℕ) → fold min n (map (λ r. r.start) (filter (λ r. holds_kind kind r.state) rs)) ≡ least_start (is_of_kind kind) n (active_of rs)
 least_fold kind [] n = refl
 least_fold kind (r ∷ rs) n = go (holds_kind kind r.state) (least_more kind r rs n) (least_fold kind rs)
   where
-    go : (b : Bool) → least_start (of_kind kind) n (active_of (r ∷ rs)) ≡ cond b (min r.start (least_start (of_kind kind) n (active_of rs))) (least_start (of_kind kind) n (active_of rs)) → ((m : ℕ) → fold min m (map (λ r. r.start) (filter (λ r. holds_kind kind r.state) rs)) ≡ least_start (of_kind kind) m (active_of rs)) → fold min n (map (λ r. r.start) (cond b (r ∷ filter (λ r. holds_kind kind r.state) rs) (filter (λ r. holds_kind kind r.state) rs))) ≡ least_start (of_kind kind) n (active_of (r ∷ rs))
-    go true e rest = rest (min n r.start) ∙ least_min (of_kind kind) n r.start (active_of rs) ∙ sym e
+    go : (b : Bool) → least_start (is_of_kind kind) n (active_of (r ∷ rs)) ≡ cond b (min r.start (least_start (is_of_kind kind) n (active_of rs))) (least_start (is_of_kind kind) n (active_of rs)) → ((m : ℕ) → fold min m (map (λ r. r.start) (filter (λ r. holds_kind kind r.state) rs)) ≡ least_start (is_of_kind kind) m (active_of rs)) → fold min n (map (λ r. r.start) (cond b (r ∷ filter (λ r. holds_kind kind r.state) rs) (filter (λ r. holds_kind kind r.state) rs))) ≡ least_start (is_of_kind kind) n (active_of (r ∷ rs))
+    go true e rest = rest (min n r.start) ∙ least_min (is_of_kind kind) n r.start (active_of rs) ∙ sym e
     go false e rest = rest n ∙ sym e

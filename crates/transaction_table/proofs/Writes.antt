@@ -25,12 +25,12 @@ written_at (w ∷ ws) zero k x d lt before here = rw here
 written_at (w ∷ ws) (suc i) k x d lt before here = rw (before 0 (omega arith)) (ap (λ us. w ∷ us) (written_at ws i k x d (omega arith) (λ j l. before (suc j) (omega arith)) here))
 
 -- the first write to the key stands at i
-pub record Stands (ws : List Write) (k i : ℕ) : Type 0 where
+pub record StandsAt (ws : List Write) (k i : ℕ) : Type 0 where
   pub within : i < length ws
   pub there : is_some (own_write k ws) ≡ true
   pub over : (x : ℕ) → written ws k x ≡ set ws i (record { key = k; value = x })
 
-pub stands : (ws : List Write) (k i : ℕ) → Some i ≡ position (writes_to k) ws → Stands ws k i
+pub stands : (ws : List Write) (k i : ℕ) → Some i ≡ position (writes_to k) ws → StandsAt ws k i
 stands ws k i e =
     let d : Write = record { key = 0; value = 0 } in
     let h = position-Some (writes_to k) ws i d (sym e) in

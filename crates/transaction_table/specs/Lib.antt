@@ -2,5 +2,5 @@ pub mod Bounded
 pub mod View
 pub mod Lists
 pub mod Next
-pub mod Places
+pub mod Slots
 pub mod Shuffle

@@ -1,31 +1,28 @@
--- What a read or a write makes of a transaction's lists, and when there is room.
-use Rattle.std.specs.Prelude.{ℕ, Bool, if◌then◌else◌, not, ◌&&◌, ◌||◌, List, [], ◌∷◌, ◌++◌, length, Ok, Err, Result, ◌==◌, nat_le}
-use Rattle.std.specs.List.{list_any}
-use Rattle.ledger.specs.declared.TheConstants.{MAX_READS}
+-- What a read or a write makes of a transaction's lists, and when they are full.
+use Rattle.std.specs.Prelude.{ℕ, Bool, if◌then◌else◌, List, Ok, Err, Result, ◌==◌}
+use Rattle.std.specs.Result.{is_ok}
 use Rattle.ledger.specs.declared.Range.{Range}
-use Rattle.ledger.specs.declared.Write.{Write as Entry}
+use Rattle.ledger.specs.declared.Write.{Write}
 use Rattle.ledger.specs.Ledger.{written}
-use Rattle.ledger.specs.Calls.{same_range, no_room}
+use Rattle.ledger.specs.Calls.{with_range, read_list_full, write_list_full}
 use Rattle.transaction_table.specs.declared.lists.Full.{Full}
 
--- a range that is new to a full read list
-abbrev pub reads_full : List Range → ℕ → ℕ → Bool
-reads_full rs k n = not (list_any (same_range k n) rs) && nat_le MAX_READS (length rs)
+-- a full list takes no range that is new to it
+abbrev pub join_answer : List Range → Range → Result (Unit {0}) Full
+join_answer rs r = if read_list_full rs r.first r.count then Err (record {}) else Ok tt
 
--- there is room for the range
-abbrev pub join_room : List Range → Range → Result (Unit {0}) Full
-join_room rs r = if reads_full rs r.first r.count then Err (record {}) else Ok tt
-
-abbrev pub reads_with : List Range → ℕ → ℕ → List Range
-reads_with rs k n = if list_any (same_range k n) rs || nat_le MAX_READS (length rs) then rs else (rs ++ (record { first = k; count = n } ∷ []))
+-- the list once the range has joined it, if it was taken
+abbrev pub reads_with : List Range → Range → List Range
+reads_with rs r = if is_ok (join_answer rs r) then with_range rs r.first r.count else rs
 
 -- it is a write to the key
-abbrev pub writes_to : ℕ → Entry → Bool
+abbrev pub writes_to : ℕ → Write → Bool
 writes_to k w = w.key == k
 
--- there is room for the write
-abbrev pub put_room : List Entry → ℕ → Result (Unit {0}) Full
-put_room ws k = if no_room ws k then Err (record {}) else Ok tt
+-- a full list takes no key that is new to it
+abbrev pub put_answer : List Write → ℕ → Result (Unit {0}) Full
+put_answer ws k = if write_list_full ws k then Err (record {}) else Ok tt
 
-abbrev pub writes_with : List Entry → ℕ → ℕ → List Entry
-writes_with ws k x = if no_room ws k then ws else written ws k x
+-- the list with the write, if it was taken
+abbrev pub writes_with : List Write → Write → List Write
+writes_with ws w = if is_ok (put_answer ws w.key) then written ws w.key w.value else ws

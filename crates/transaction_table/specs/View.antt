@@ -26,8 +26,8 @@ kind_of Updates = Updater
 abbrev pub ranges : Bounded Range MAX_READS → List Range
 ranges r = held r
 
-abbrev pub entries : Bounded Write MAX_WRITES → List Write
-entries w = held w
+abbrev pub writes_of : Bounded Write MAX_WRITES → List Write
+writes_of w = held w
 
 -- the lists of a record in which no transaction has read or written
 abbrev pub no_ranges : Bounded Range MAX_READS
@@ -37,7 +37,7 @@ abbrev pub no_writes : Bounded Write MAX_WRITES
 no_writes = no_items (record { key = 0; value = 0 })
 
 abbrev pub view : Record → Transaction
-view r = record { start = r.start; kind = kind_of r.state; reads = ranges r.reads; writes = entries r.writes }
+view r = record { start = r.start; kind = kind_of r.state; reads = ranges r.reads; writes = writes_of r.writes }
 
 -- the active transactions, in the order of their records
 abbrev pub active_of : List Record → List Transaction

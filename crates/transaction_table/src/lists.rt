@@ -5,8 +5,8 @@ ghost use Rattle.std.specs.Bool.{⊤};
 use ledger::{MAX_READS, MAX_WRITES, Range, Write};
 use std::alloc::AllocError;
 
-mod reading;
-mod writing;
+mod read_list;
+mod write_list;
 
 /// The ranges that an updater read, in the order made.
 pub type ReadList = Bounded<Range, MAX_READS>;
@@ -20,10 +20,10 @@ pub struct Bounded<T, const N: usize> {
     len: usize,
     items: [T; N],
     ghost fits: { len ≤ N },
-    ghost room: { length items ≡ N },
+    ghost sized: { length items ≡ N },
 }
 
-/// There is no room for one more item.
+/// The list has no place for one more item.
 #[derive(Clone, Copy)]
 pub struct Full;
 
@@ -41,7 +41,7 @@ impl<T: Copy, const N: usize> Clone for Bounded<T, N> {
 impl<T: Copy, const N: usize> Copy for Bounded<T, N> {}
 
 impl<T: Copy, const N: usize> Bounded<T, N> {
-    ghost use Rattle.transaction_table.specs.Bounded.{held, no_items, push_room, pushed};
+    ghost use Rattle.transaction_table.specs.Bounded.{held, no_items, push_answer, pushed};
 
     /// A list without items; until there are any, its places have this one.
     // Each instance has a `new` that gives it, so that the ledger's structs need no `Default`.
@@ -63,7 +63,7 @@ impl<T: Copy, const N: usize> Bounded<T, N> {
 
     /// Puts an item behind the others.
     pub fn push(&mut self, item: T) -> Result<(), Full>
-        ensures room { result ≡ push_room N (held self.old) }
+        ensures answer { result ≡ push_answer N (held self.old) }
         ensures after { held self.new ≡ pushed N (held self.old) item }
         ensures refusal { OnErr result (self.new ≡ self.old) }
     {

@@ -3,7 +3,7 @@ ghost use Rattle.std.specs.Result.{is_ok};
 ghost use Rattle.ledger.specs.Ledger.{handle_of, moment_of};
 ghost use Rattle.ledger.specs.Calls.{joined, wrote, range_check, join_check, write_check, having_made};
 ghost use Rattle.transaction_table.specs.View.{view};
-ghost use Rattle.transaction_table.specs.Places.{holds_kind, state_of, new_record, free_record};
+ghost use Rattle.transaction_table.specs.Slots.{holds_kind, state_of, new_record, free_record};
 ghost use Rattle.transaction_table.specs.Next.{take_answer};
 
 use crate::lists::{ReadList, WriteList};
@@ -93,7 +93,7 @@ impl Record {
     pub fn moment(&self) -> u32
         ensures { result ≡ moment_of (view self.now) }
     {
-        // A reader reads as of the tick that names it.
+        // A reader reads as of its start, and its handle is that tick.
         self.handle()
     }
 

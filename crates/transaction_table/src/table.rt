@@ -1,8 +1,8 @@
 ghost use Rattle.std.specs.Prelude.{◌≡◌, ◌+◌, ◌-◌, ◌^◌, ◌<◌, min, position, IfSome, OnOk, OnErr};
 ghost use Rattle.ledger.specs.Ledger.{least_start};
 ghost use Rattle.transaction_table.specs.View.{active_of};
-ghost use Rattle.transaction_table.specs.Shuffle.{Shuffle};
-ghost use Rattle.transaction_table.specs.Places.{is_free, has_handle, new_table, begin_answer, begun, begun_active, of_kind};
+ghost use Rattle.transaction_table.specs.Shuffle.{IsShuffle};
+ghost use Rattle.transaction_table.specs.Slots.{is_free, has_handle, new_table, begin_answer, begun, begun_active, is_of_kind};
 
 use crate::record::{Record, State};
 use ledger::{Fault, Kind, MAX_ACTIVE};
@@ -52,7 +52,7 @@ impl TransactionTable {
         ensures answer { result ≡ begin_answer self.old }
         ensures after { OnOk result (self.new ≡ begun kind self.old) }
         ensures refusal { OnErr result (self.new ≡ self.old) }
-        ensures active { Shuffle (begun_active result kind self.old.records)
+        ensures active { IsShuffle (begun_active result kind self.old.records)
             (active_of self.new.records) }
     {
         let slot = self.vacant().ok_or(Fault::TooManyActive)?;
@@ -67,7 +67,7 @@ impl TransactionTable {
 
     /// The least start tick of the transactions of this kind, or without any the next tick.
     pub fn least_start(&self, kind: Kind) -> u32
-        ensures { result ≡ least_start (of_kind kind) (min (self.now.clock + 1) (2 ^ 32 - 1))
+        ensures { result ≡ least_start (is_of_kind kind) (min (self.now.clock + 1) (2 ^ 32 - 1))
             (active_of self.now.records) }
     {
         let next = self.clock.saturating_add(1);

@@ -8,11 +8,11 @@ use Rattle.std.specs.declared.str.SplitWhitespace.{SplitWhitespace}
 use Rattle.trials.specs.declared.trial.Setting.{Setting}
 use Rattle.trials.specs.declared.trial.SettingError.{SettingError}
 use Rattle.trials.specs.declared.trial.SettingError.TheVariants.{Short, Number}
-use Rattle.trials.specs.Setting.{Writes, Next, Fails, Gives, GivesNone}
+use Rattle.trials.specs.Setting.{IsWritten, NextIs, Fails, Gives, GivesNone}
 
-pub next_word : (bits n : ℕ) (words behind : SplitWhitespace) (word : Option (Bor (List ℕ))) (Read : Bor (List ℕ) → Type 0) (GoesOn : SplitWhitespace → Type 0) → ((w : Bor (List ℕ)) → Read w → Writes bits n w) → split_whitespace_steps words word behind → IsSomeAnd word Read → GoesOn behind → Next bits n GoesOn words
-next_word bits n words behind None Read GoesOn f s r g = absurd r
-next_word bits n words behind (Some w) Read GoesOn f s r g = (w, (f w r, (behind, (s, g))))
+pub next_word : (bits n : ℕ) (words behind : SplitWhitespace) (word : Option (Bor (List ℕ))) (Read : Bor (List ℕ) → Type 0) (Rest : SplitWhitespace → Type 0) → ((w : Bor (List ℕ)) → Read w → IsWritten bits n w) → split_whitespace_steps words word behind → IsSomeAnd word Read → Rest behind → NextIs bits n Rest words
+next_word bits n words behind None Read Rest f s r g = absurd r
+next_word bits n words behind (Some w) Read Rest f s r g = (w, (f w r, (behind, (s, g))))
 
 -- a word that gave no number, or no word at all, at the first of the sizes
 pub fails_here : (bits : ℕ) (more : List ℕ) (e : SettingError) (words behind : SplitWhitespace) (word : Option (Bor (List ℕ))) (Cause : Bor (List ℕ) → ParseIntError → Type 0) → ((w : Bor (List ℕ)) (cause : ParseIntError) → Cause w cause → ParsesUnsigned bits 10 w.now (Err cause)) → split_whitespace_steps words word behind → MatchOption word (e ≡ Short) (λ w. (cause : ParseIntError) × ((e ≡ Number cause) × Cause w cause)) → Fails e (bits ∷ more) words

@@ -10,19 +10,19 @@ use Rattle.trials.specs.declared.trial.SettingError.{SettingError}
 use Rattle.trials.specs.declared.trial.SettingError.TheVariants.{Short, Number}
 
 -- n is written in decimal, and fits in so many bits
-abbrev pub Writes : ℕ → ℕ → Bor (List ℕ) → Type 0
-Writes bits n word = ParsesUnsigned {E = ParseIntError} bits 10 word.now (Ok n)
+abbrev pub IsWritten : ℕ → ℕ → Bor (List ℕ) → Type 0
+IsWritten bits n word = ParsesUnsigned {E = ParseIntError} bits 10 word.now (Ok n)
 
 -- the word is no number of so many bits, and the error says so
 abbrev pub IsNoNumber : ℕ → SettingError → Bor (List ℕ) → Type 0
 IsNoNumber bits e word = (cause : ParseIntError) × ((e ≡ Number cause) × ParsesUnsigned bits 10 word.now (Err cause))
 
--- the next word writes n, and GoesOn is what holds behind it
-abbrev pub Next : ℕ → ℕ → (SplitWhitespace → Type 0) → SplitWhitespace → Type 0
-Next bits n GoesOn words = (word : Bor (List ℕ)) × (Writes bits n word × ((behind : SplitWhitespace) × (split_whitespace_steps words (Some word) behind × GoesOn behind)))
+-- the next word writes n, and Rest is what holds behind it
+abbrev pub NextIs : ℕ → ℕ → (SplitWhitespace → Type 0) → SplitWhitespace → Type 0
+NextIs bits n Rest words = (word : Bor (List ℕ)) × (IsWritten bits n word × ((behind : SplitWhitespace) × (split_whitespace_steps words (Some word) behind × Rest behind)))
 
 abbrev pub Gives : List ℕ → Setting → Type 0
-Gives text s = (words : SplitWhitespace) × ((split_whitespace_rest words ≡ text) × Next 16 s.keys (Next 64 s.cells (Next 16 s.grain (Next 32 s.last (Next 64 s.places (λ _. ⊤))))) words)
+Gives text s = (words : SplitWhitespace) × ((split_whitespace_rest words ≡ text) × NextIs 16 s.keys (NextIs 64 s.cells (NextIs 16 s.grain (NextIs 32 s.last (NextIs 64 s.places (λ _. ⊤))))) words)
 
 -- the words end before each of these sizes has its number, or the next that is no number ends them
 abbrev pub Fails : SettingError → List ℕ → SplitWhitespace → Type 0

@@ -13,8 +13,8 @@ run_tally expected lines =
     }
 
 -- each number is the sum, or the largest that there is
-abbrev pub added : Tally → Tally → Tally
-added t other =
+abbrev pub tally_sum : Tally → Tally → Tally
+tally_sum t other =
     record {
       runs = min (t.runs + other.runs) (2 ^ 64 - 1);
       lines = min (t.lines + other.lines) (2 ^ 64 - 1);

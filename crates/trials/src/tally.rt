@@ -1,5 +1,5 @@
 ghost use Rattle.std.specs.Prelude.{◌≡◌, Some};
-ghost use Rattle.trials.specs.Tally.{added, tally_text};
+ghost use Rattle.trials.specs.Tally.{tally_sum, tally_text};
 
 use std::fmt;
 use std::ops::AddAssign;
@@ -23,7 +23,7 @@ impl Tally {
 }
 
 impl AddAssign for Tally {
-    ghost add_assign_gives = { λ old other new. new ≡ added old other };
+    ghost add_assign_gives = { λ old other new. new ≡ tally_sum old other };
 
     fn add_assign(&mut self, other: Tally) {
         self.runs = self.runs.saturating_add(other.runs);

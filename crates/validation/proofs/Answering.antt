@@ -4,7 +4,7 @@ use mathlib.Core.Path.{fun_ext}
 use Rattle.std.proofs.lemmas.Grind.{common_steps}
 use Rattle.std.proofs.lemmas.Bool.{lt-ltb, le-ltb, cases_lt}
 use Rattle.validation.specs.declared.validator.Clash.{Clash}
-use Rattle.validation.specs.Meaning.{Stamps, stamp_at, clash_at, first_clash, clash_answer, greatest_below, latest, with_stamps, granule_answer, note_answer, noted}
+use Rattle.validation.specs.Stamps.{Stamps, stamp_at, clash_at, first_clash, clash_answer, greatest_below, latest, with_stamps, granule_answer, note_answer, noted}
 
 -- the lowest key from k on and below e whose granule has a stamp above the start, with that stamp
 abbrev pub IsFirstClash : Stamps → ℕ → ℕ → ℕ → Option Clash → Type 0
@@ -22,7 +22,7 @@ module _ (m : Stamps) (start : ℕ) where
   beyond k e None miss low = λ j from. low j (omega arith)
   beyond k e (Some c) miss low = (grind (arith, common_steps, low.0, low.2, low.3), low.1, low.2, low.3, λ j from. low.4 j (omega arith))
 
-  pub clash_is : (n k : ℕ) (o : Option Clash) → IsFirstClash m start k (k + n) o → o ≡ first_clash m start k n
+  clash_is : (n k : ℕ) (o : Option Clash) → IsFirstClash m start k (k + n) o → o ≡ first_clash m start k n
   clash_is zero k None low = refl
   clash_is zero k (Some c) low = absurd (omega (arith, low.0, low.1))
   clash_is (suc n) k o low =

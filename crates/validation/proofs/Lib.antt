@@ -1,3 +1,3 @@
 mod Answering
 mod Recents
-mod Tables
+pub mod Tables

@@ -3,14 +3,19 @@ use Rattle.std.proofs.Common.{◌≡◌, ℕ, ◌+◌, ◌*◌, ◌/◌, ◌<◌
 use Rattle.std.proofs.lemmas.Grind.{common_steps, div_ceil_times}
 use Rattle.std.specs.Int.{div_ceil}
 use Rattle.std.specs.List.{AllWithin}
+use Rattle.std.proofs.Math.Nat.{div-one}
 use Rattle.std.proofs.lemmas.Nat.{div_below, div-mul-add}
-use Rattle.validation.specs.Meaning.{latest, granule_answer, noted}
+use Rattle.validation.specs.Stamps.{latest, granule_answer, noted}
 use Rattle.validation.specs.Table.{table_stamps}
 use Rattle.validation.proofs.Answering.{latest_at, latest_is, same_stamps, noted_fine, granule_known}
 
+-- a granule of one key is the key
+pub granule_of_one : ◌≡◌ {A = ℕ → ℕ} (λ k. k / 1) (λ k. k)
+granule_of_one = λ i k. div-one k i
+
 module _ (keys grain : ℕ) (some : 0 < grain) where
   -- each key's granule has its place
-  pub granule_in : (k : ℕ) → k < keys → k / grain < div_ceil keys grain
+  granule_in : (k : ℕ) → k < keys → k / grain < div_ceil keys grain
   granule_in k in' = div_below k grain (div_ceil keys grain) some (omega (arith, div_ceil_times keys grain some))
 
   -- each place is some key's granule

@@ -1,5 +1,5 @@
 pub mod Faults
-pub mod Meaning
+pub mod Stamps
 pub mod SetUp
 pub mod RecentLists
 pub mod StampTables

@@ -2,7 +2,7 @@
 use Rattle.std.specs.Prelude.{ℕ, ◌≤◌, if◌then◌else◌, List, length, filter, find, ◌==◌, nat_lt}
 use Rattle.std.specs.Option.{option_map_or}
 use Rattle.validation.specs.declared.entry.Entry.{Entry}
-use Rattle.validation.specs.Meaning.{Stamps}
+use Rattle.validation.specs.Stamps.{Stamps}
 
 -- the stamp of a key's entry; a key without one has stamp 0
 abbrev pub stamp_in : List Entry → ℕ → ℕ
@@ -17,9 +17,9 @@ abbrev pub entry_count : ℕ → List Entry → ℕ
 entry_count k es = length (filter (λ e. e.key == k) es)
 
 -- a key has at most one entry, and what is no key has none
-abbrev pub Once : ℕ → List Entry → Type 0
-Once keys es = (k : ℕ) → entry_count k es ≤ (if nat_lt k keys then 1 else 0)
+abbrev pub AreOnePerKey : ℕ → List Entry → Type 0
+AreOnePerKey keys es = (k : ℕ) → entry_count k es ≤ (if nat_lt k keys then 1 else 0)
 
 -- what a cleared place holds
-abbrev pub blank : Entry
-blank = record { key = 0; stamp = 0 }
+abbrev pub cleared_entry : Entry
+cleared_entry = record { key = 0; stamp = 0 }

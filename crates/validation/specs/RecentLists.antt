@@ -2,7 +2,7 @@
 use Rattle.std.specs.Prelude.{List}
 use Rattle.validation.specs.declared.entry.Entry.{Entry}
 use Rattle.validation.specs.declared.recent.RecentList.{RecentList}
-use Rattle.validation.specs.Meaning.{Stamps, Lawful}
+use Rattle.validation.specs.Stamps.{Stamps, IsLawfulValidator}
 use Rattle.validation.specs.Recent.{list_stamps}
 
 -- its entries in the order of noting
@@ -16,5 +16,5 @@ places_behind l = l.entries.rest
 abbrev pub list_meaning : RecentList → Stamps
 list_meaning l = list_stamps l.keys (entries_of l)
 
-pub list_lawful : (l : RecentList) → Lawful (list_meaning l)
+pub list_lawful : (l : RecentList) → IsLawfulValidator (list_meaning l)
 list_lawful l = l.few

@@ -1,6 +1,10 @@
 ghost use Rattle.std.specs.Prelude.{◌≡◌};
+ghost use Rattle.validation.specs.Faults.{second_layer};
 
 use refusals::{Refusal, Report};
+
+/// Validators are the second layer.
+pub const LAYER: u8 = 2;
 
 /// What the calls of every validator refuse.
 #[derive(Clone, Copy, Debug, PartialEq, Eq)]
@@ -13,7 +17,7 @@ pub enum ValidatorFault {
 
 /// Why no stamp table can be made.
 #[derive(Clone, Copy, Debug, PartialEq, Eq)]
-pub enum TableFault {
+pub enum StampTableFault {
     /// The number of keys is outside its limits.
     Keys { keys: u16 },
     /// The keys to a granule are none or more than there are.
@@ -24,7 +28,7 @@ pub enum TableFault {
 
 /// Why no recent list can be made.
 #[derive(Clone, Copy, Debug, PartialEq, Eq)]
-pub enum ListFault {
+pub enum RecentListFault {
     /// The number of keys is outside its limits.
     Keys { keys: u16 },
     /// The places are not one a key.
@@ -38,45 +42,45 @@ impl Refusal for ValidatorFault {
 
     fn report(&self) -> Report {
         match *self {
-            ValidatorFault::KeyOutside { key } => layer_report(5, u64::from(key)),
-            ValidatorFault::StaleStamp { key } => layer_report(16, u64::from(key)),
+            ValidatorFault::KeyOutside { key } => of_layer(5, u64::from(key)),
+            ValidatorFault::StaleStamp { key } => of_layer(16, u64::from(key)),
         }
     }
 }
 
-impl Refusal for TableFault {
-    ghost use Rattle.validation.specs.Faults.{table_report};
+impl Refusal for StampTableFault {
+    ghost use Rattle.validation.specs.Faults.{stamp_table_report};
 
-    ghost reported = { table_report };
+    ghost reported = { stamp_table_report };
 
     fn report(&self) -> Report {
         match *self {
-            TableFault::Keys { keys } => layer_report(1, u64::from(keys)),
-            TableFault::Grain { grain } => layer_report(4, u64::from(grain)),
-            TableFault::Places { places } => layer_report(3, places as u64),
+            StampTableFault::Keys { keys } => of_layer(1, u64::from(keys)),
+            StampTableFault::Grain { grain } => of_layer(4, u64::from(grain)),
+            StampTableFault::Places { places } => of_layer(3, places as u64),
         }
     }
 }
 
-impl Refusal for ListFault {
-    ghost use Rattle.validation.specs.Faults.{list_report};
+impl Refusal for RecentListFault {
+    ghost use Rattle.validation.specs.Faults.{recent_list_report};
 
-    ghost reported = { list_report };
+    ghost reported = { recent_list_report };
 
     fn report(&self) -> Report {
         match *self {
-            ListFault::Keys { keys } => layer_report(1, u64::from(keys)),
-            ListFault::Places { places } => layer_report(3, places as u64),
+            RecentListFault::Keys { keys } => of_layer(1, u64::from(keys)),
+            RecentListFault::Places { places } => of_layer(3, places as u64),
         }
     }
 }
 
-/// What a refusal says: validators are the second layer.
-fn layer_report(number: u8, place: u64) -> Report
-    ensures { result ≡ record { layer = 2; number = number; place = place } }
+/// What a refusal of this layer says.
+fn of_layer(number: u8, place: u64) -> Report
+    ensures { result ≡ second_layer number place }
 {
     Report {
-        layer: 2,
+        layer: LAYER,
         number,
         place,
     }

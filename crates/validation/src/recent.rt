@@ -1,14 +1,15 @@
 ghost use Rattle.std.specs.Prelude.{◌≡◌, ◌≤◌, [], length, replicate, ◌==◌, nat_lt};
 ghost use Rattle.stamped.specs.declared.TheConstants.{MAX_KEYS};
-ghost use Rattle.stamped.specs.Packing.{room};
-ghost use Rattle.validation.specs.Recent.{stamp_in, Once, blank};
-ghost use Rattle.validation.specs.SetUp.{list_answer, new_stamps};
+ghost use Rattle.stamped.specs.Packing.{capacity};
+ghost use Rattle.validation.specs.Recent.{stamp_in, AreOnePerKey, cleared_entry};
+ghost use Rattle.validation.specs.SetUp.{recent_list_check, new_stamps};
 
 pub use crate::entry::Entry;
-use crate::fault::{ListFault, ValidatorFault};
-use crate::validator::{Clash, MAX_KEYS, Validator};
-use stamped::closing::Drops;
-use stamped::looking::{Moment, find_last};
+use crate::fault::{RecentListFault, ValidatorFault};
+use crate::validator::{Clash, Validator};
+use stamped::gaps::Drops;
+use stamped::keys_outside;
+use stamped::lookup::{Moment, find_last};
 use stamped::packed::Packed;
 
 /// Drops the entry of a key.
@@ -45,22 +46,22 @@ pub struct RecentList<'a> {
     keys: u16,
     entries: Packed<'a, Entry>,
     ghost few: { keys ≤ MAX_KEYS },
-    ghost places: { room entries ≡ keys },
-    ghost once: { Once keys entries.records },
+    ghost places: { capacity entries ≡ keys },
+    ghost once: { AreOnePerKey keys entries.records },
 }
 
 impl<'a> RecentList<'a> {
     ghost use Rattle.validation.specs.RecentLists.{entries_of, places_behind, list_meaning};
 
     /// Whether a list can be made of so many keys over so many places.
-    pub fn check(keys: u16, places: usize) -> Result<(), ListFault>
-        ensures { result ≡ list_answer keys places }
+    pub fn check(keys: u16, places: usize) -> Result<(), RecentListFault>
+        ensures { result ≡ recent_list_check keys places }
     {
-        if keys == 0 || keys > MAX_KEYS {
-            return Err(ListFault::Keys { keys });
+        if keys_outside(keys) {
+            return Err(RecentListFault::Keys { keys });
         }
         if places != usize::from(keys) {
-            return Err(ListFault::Places { places });
+            return Err(RecentListFault::Places { places });
         }
         Ok(())
     }
@@ -68,9 +69,9 @@ impl<'a> RecentList<'a> {
     /// An empty list over cleared entries; one without keys where the check refuses.
     pub fn make(keys: u16, entries: &'a mut [Entry]) -> RecentList<'a>
         ensures fresh { list_meaning result ≡
-            new_stamps (list_answer keys (length entries.old)) keys (λ k. k) }
+            new_stamps (recent_list_check keys (length entries.old)) keys (λ k. k) }
         ensures none { entries_of result ≡ [] }
-        ensures clear { places_behind result ≡ replicate (length (places_behind result)) blank }
+        ensures clear { places_behind result ≡ replicate (length (places_behind result)) cleared_entry }
     {
         entries.fill(Entry::CLEARED);
         if Self::check(keys, entries.len()).is_err() {

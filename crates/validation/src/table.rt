@@ -1,10 +1,11 @@
 ghost use Rattle.std.specs.Prelude.{◌≡◌, ◌/◌, ◌<◌, ◌≤◌, length, replicate};
 ghost use Rattle.std.specs.Int.{div_ceil};
 ghost use Rattle.stamped.specs.declared.TheConstants.{MAX_KEYS};
-ghost use Rattle.validation.specs.SetUp.{table_answer, new_stamps};
+ghost use Rattle.validation.specs.SetUp.{stamp_table_check, new_stamps};
 
-use crate::fault::{TableFault, ValidatorFault};
-use crate::validator::{Clash, MAX_KEYS, Validator};
+use crate::fault::{StampTableFault, ValidatorFault};
+use crate::validator::{Clash, Validator};
+use stamped::keys_outside;
 
 /// One stamp for each granule over lent memory; a granule is `grain` keys that lie next to each other.
 #[derive(Drop)]
@@ -21,17 +22,17 @@ impl<'a> StampTable<'a> {
     ghost use Rattle.validation.specs.StampTables.{granule_stamps, table_meaning};
 
     /// Whether a table can be made of so many keys, so many to a granule, over so many places.
-    pub fn check(keys: u16, grain: u16, places: usize) -> Result<(), TableFault>
-        ensures { result ≡ table_answer keys grain places }
+    pub fn check(keys: u16, grain: u16, places: usize) -> Result<(), StampTableFault>
+        ensures { result ≡ stamp_table_check keys grain places }
     {
-        if keys == 0 || keys > MAX_KEYS {
-            return Err(TableFault::Keys { keys });
+        if keys_outside(keys) {
+            return Err(StampTableFault::Keys { keys });
         }
         if grain == 0 || grain > keys {
-            return Err(TableFault::Grain { grain });
+            return Err(StampTableFault::Grain { grain });
         }
         if places != usize::from(keys.div_ceil(grain)) {
-            return Err(TableFault::Places { places });
+            return Err(StampTableFault::Places { places });
         }
         Ok(())
     }
@@ -39,7 +40,7 @@ impl<'a> StampTable<'a> {
     /// A table of cleared stamps; one without keys where the check refuses.
     pub fn make(keys: u16, grain: u16, stamps: &'a mut [u32]) -> StampTable<'a>
         ensures fresh { table_meaning result ≡
-            new_stamps (table_answer keys grain (length stamps.old)) keys (λ k. k / grain) }
+            new_stamps (stamp_table_check keys grain (length stamps.old)) keys (λ k. k / grain) }
         ensures clear { granule_stamps result ≡ replicate (length (granule_stamps result)) 0 }
     {
         stamps.fill(0);

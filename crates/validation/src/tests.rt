@@ -5,7 +5,7 @@ use refusals::Refusal;
 use std::process::Abort;
 
 /// An answer with the number and the place of its fault: what the rules say of a refusal, not what it is called.
-fn told<T: Drop, F: Refusal + Drop>(answer: Result<T, F>) -> Result<T, (u8, u64)> {
+fn reported<T: Drop, F: Refusal + Drop>(answer: Result<T, F>) -> Result<T, (u8, u64)> {
     answer.map_err(|fault| {
         let report = fault.report();
         (report.number, report.place)
@@ -17,7 +17,7 @@ fn answered<F: Refusal + Drop>(
     answer: Result<(), F>,
     expected: Result<(), (u8, u64)>,
 ) {
-    assert_eq!(rt; told(answer), expected);
+    assert_eq!(rt; reported(answer), expected);
 }
 
 fn noted<V: Validator>(
@@ -42,7 +42,7 @@ fn clashes<V: Validator>(
     start: u32,
     answer: Result<Option<Clash>, (u8, u64)>,
 ) {
-    assert_eq!(rt; told(validator.clash(first, count, start)), answer);
+    assert_eq!(rt; reported(validator.clash(first, count, start)), answer);
 }
 
 /// Ten keys, each its own granule: keys 4 and 2 are noted, in this order.
@@ -59,7 +59,7 @@ fn notes_and_clashes<V: Validator + Drop>(rt: &impl Abort, mut validator: V) {
     clashes(rt, &validator, 0, 0, 0, Ok(None));
     clashes(rt, &validator, 10, 0, 0, Ok(None));
     clashes(rt, &validator, 10, 1, 0, Err((5, 10)));
-    assert_eq!(rt; told(validator.granule(9)), Ok(9));
+    assert_eq!(rt; reported(validator.granule(9)), Ok(9));
     assert_eq!(rt; validator.latest(), 9);
 }
 
@@ -138,8 +138,8 @@ fn a_key_is_a_granule(rt: HostRuntime) {
 fn three_keys_are_a_granule(rt: HostRuntime) {
     let mut stamps = [8; 4];
     let mut table = StampTable::make(10, 3, &mut stamps);
-    assert_eq!(rt; told(table.granule(8)), Ok(2));
-    assert_eq!(rt; told(table.granule(9)), Ok(3));
+    assert_eq!(rt; reported(table.granule(8)), Ok(2));
+    assert_eq!(rt; reported(table.granule(9)), Ok(3));
     noted(&rt, &mut table, 4, 5, Ok(()));
     noted(&rt, &mut table, 3, 4, Err((16, 3)));
     clashes(&rt, &table, 0, 10, 4, Ok(clash_of(3, 5)));
@@ -151,7 +151,7 @@ fn three_keys_are_a_granule(rt: HostRuntime) {
 fn all_keys_are_a_granule(rt: HostRuntime) {
     let mut stamps = [8; 1];
     let mut table = StampTable::make(10, 10, &mut stamps);
-    assert_eq!(rt; told(table.granule(9)), Ok(0));
+    assert_eq!(rt; reported(table.granule(9)), Ok(0));
     noted(&rt, &mut table, 9, 2, Ok(()));
     clashes(&rt, &table, 0, 1, 1, Ok(clash_of(0, 2)));
     clashes(&rt, &table, 0, 10, 2, Ok(None));

@@ -1,9 +1,8 @@
 ghost use Rattle.std.specs.Prelude.{◌≡◌};
 
 use crate::fault::ValidatorFault;
-pub use stamped::MAX_KEYS;
 
-/// A key, and the stamp of its granule, which is above the start that was asked about.
+/// A key, and the stamp of its granule, which is above the start given.
 #[derive(Clone, Copy, Debug, PartialEq, Eq)]
 pub struct Clash {
     pub key: u16,
@@ -12,7 +11,7 @@ pub struct Clash {
 
 /// A number of keys, a granule for each key, and for each granule the stamp that was noted last.
 pub trait Validator {
-    ghost use Rattle.validation.specs.Meaning.{Stamps, Lawful, granule_answer, clash_answer, note_answer, noted, trimmed, latest};
+    ghost use Rattle.validation.specs.Stamps.{Stamps, IsLawfulValidator, granule_answer, clash_answer, note_answer, noted, trimmed, latest};
 
     ghost meaning: { Self → Stamps };
 
@@ -43,5 +42,5 @@ pub trait Validator {
         ensures { result ≡ latest (meaning self.now) };
 
     /// What holds of every validator.
-    ghost lawful: { (v : Self) → Lawful (meaning v) };
+    ghost lawful: { (v : Self) → IsLawfulValidator (meaning v) };
 }

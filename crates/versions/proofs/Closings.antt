@@ -5,8 +5,8 @@ use Rattle.std.proofs.lemmas.Bool.{eq-eqb, ne_eqb, cases_Bool, cases_eq}
 use Rattle.std.proofs.ByRecursion.{every_from_all}
 use Rattle.stamped.specs.Gaps.{closed}
 use Rattle.versions.specs.declared.store.Version.{Version}
-use Rattle.versions.specs.Meaning.{Revision, Falling, pruned, kept, pruned_count}
-use Rattle.versions.specs.Log.{revision_of, log_versions, store_of_log, Known, outdated_by}
+use Rattle.versions.specs.Stores.{Revision, AreFalling, pruned, kept, pruned_count}
+use Rattle.versions.specs.Log.{revision_of, log_versions, store_of_log, AreOfKeys, outdated_by}
 use Rattle.versions.proofs.Lists.{any_push}
 use Rattle.versions.proofs.Meanings.{store_same, cut, survivors_cut, falls_cut, outdated_and_kept}
 use Rattle.versions.proofs.Logs.{kept_all, each_known, oldest_same, oldest_other}
@@ -69,16 +69,16 @@ all_closed P drops (x ∷ xs) a =
     (λ (t : drops x xs ≡ false). rw t (a.0, all_closed P drops xs a.1))
     (cases_Bool (drops x xs))
 
-module _ (h : ℕ) (log : List Version) (falling : Falling (log_versions log)) where
-  pub closed_falling : Falling (log_versions (closed (outdated_by h) log))
+module _ (h : ℕ) (log : List Version) (falling : AreFalling (log_versions log)) where
+  pub closed_falling : AreFalling (log_versions (closed (outdated_by h) log))
   closed_falling k = rw (versions_closed h log k) (falls_cut h (log_versions log k) (falling k))
 
   pub closed_pruned : (keys cells : ℕ) → store_of_log keys cells (closed (outdated_by h) log) ≡ pruned (store_of_log keys cells log) h
   closed_pruned keys cells =
       store_same refl refl (λ k. versions_closed h log k ∙ sym (survivors_cut h (log_versions log k) (falling k)))
 
-  module _ (keys : ℕ) (known : Known keys log) where
-    pub closed_known : Known keys (closed (outdated_by h) log)
+  module _ (keys : ℕ) (known : AreOfKeys keys log) where
+    pub closed_known : AreOfKeys keys (closed (outdated_by h) log)
     closed_known k d within = every_from_all (λ v. v.key < keys) (closed (outdated_by h) log) (all_closed (λ v. v.key < keys) (outdated_by h) log (each_known keys log known)) k d (omega arith) within
 
     -- as many go as are outdated

@@ -8,10 +8,10 @@ use Rattle.std.proofs.lemmas.Bool.{lt-ltb, le-ltb, ltb-true, leb-false, lt-leb, 
 use Rattle.std.proofs.ByRecursion.{All-weaker}
 use Rattle.std.proofs.lemmas.List.Filters.{length-filter_both}
 use Rattle.versions.specs.declared.fault.StoreFault.{StoreFault}
-use Rattle.versions.specs.declared.fault.StoreFault.TheVariants.{Full, StaleStamp}
+use Rattle.versions.specs.declared.fault.StoreFault.TheVariants.{Full}
 use Rattle.stamped.specs.declared.TheConstants.{MAX_KEYS}
 use Rattle.versions.specs.declared.store.TheConstants.{MAX_CELLS}
-use Rattle.versions.specs.Meaning.{Revision, Store, newest, pair_of, newest_answer, add_answer, added, put, outdated, survivors, falls, kept, pruned_count, pruned, set_up_answer}
+use Rattle.versions.specs.Stores.{Revision, Store, newest, pair_of, newest_answer, add_answer, added, with_version, outdated, survivors, falls, kept, pruned_count, pruned, sizes_check}
 use Rattle.versions.proofs.Lists.{kept_by_same, kept_by_none, any_none, sum_add}
 
 -- stores with the same keys, cells and versions are the same
@@ -19,7 +19,7 @@ pub store_same : {keys keys' cells cells' : ℕ} {f g : ℕ → List Revision} �
 store_same {f = f} {g = g} a b each = let c : f ≡ g = fun_ext each in rw (a, b, c) refl
 
 -- what an accepted set-up shows of its sizes
-pub set_up_limits : (keys cells : ℕ) → is_ok (set_up_answer keys cells) ≡ true → record { few_keys : keys ≤ MAX_KEYS; few_cells : cells ≤ MAX_CELLS; both : eqb keys 0 ≡ eqb cells 0 }
+pub set_up_limits : (keys cells : ℕ) → is_ok (sizes_check keys cells) ≡ true → record { few_keys : keys ≤ MAX_KEYS; few_cells : cells ≤ MAX_CELLS; both : eqb keys 0 ≡ eqb cells 0 }
 set_up_limits keys cells fine = record {
   few_keys = grind (arith, common_steps);
   few_cells = grind (arith, common_steps);
@@ -28,17 +28,17 @@ set_up_limits keys cells fine = record {
 
 -- falling stamps
 
-pub falls_front : (v : Revision) (vs : List Revision) → falls (v ∷ vs) ≡ true → (newest vs).stamp < v.stamp
+falls_front : (v : Revision) (vs : List Revision) → falls (v ∷ vs) ≡ true → (newest vs).stamp < v.stamp
 falls_front v vs f = ltb-true (newest vs).stamp v.stamp (and_parts (ltb (newest vs).stamp v.stamp) (falls vs) f).0
 
-pub falls_rest : (v : Revision) (vs : List Revision) → falls (v ∷ vs) ≡ true → falls vs ≡ true
+falls_rest : (v : Revision) (vs : List Revision) → falls (v ∷ vs) ≡ true → falls vs ≡ true
 falls_rest v vs f = (and_parts (ltb (newest vs).stamp v.stamp) (falls vs) f).1
 
 pub falls_more : (v : Revision) (vs : List Revision) → (newest vs).stamp < v.stamp → falls vs ≡ true → falls (v ∷ vs) ≡ true
 falls_more v vs low f = let l = lt-ltb (newest vs).stamp v.stamp low in rw l f
 
 -- every version is older than one put in front of the newest
-pub falls_below : (t : ℕ) (vs : List Revision) → (newest vs).stamp < t → falls vs ≡ true → AllByRecursion (λ u. u.stamp < t) vs
+falls_below : (t : ℕ) (vs : List Revision) → (newest vs).stamp < t → falls vs ≡ true → AllByRecursion (λ u. u.stamp < t) vs
 falls_below t [] low f = tt
 falls_below t (v ∷ vs) low f =
     let front = falls_front v vs f in
@@ -72,7 +72,7 @@ survivors_cut h (v ∷ vs) f =
     rw (stays, e, same, survivors_cut h vs (falls_rest v vs f)) refl)
     (cases_Bool (ltb v.stamp h))
 
-pub newest_cut : (h : ℕ) (vs : List Revision) → newest (cut h vs) ≡ newest vs
+newest_cut : (h : ℕ) (vs : List Revision) → newest (cut h vs) ≡ newest vs
 newest_cut h [] = refl
 newest_cut h (v ∷ vs) = refl
 
@@ -101,12 +101,6 @@ newest_ok m k p h =
     (cases_Bool (leb m.keys k))
 
 module _ (m : Store) (k s : ℕ) (known : k < m.keys) where
-  pub add_stale : s ≤ (newest (m.versions k)).stamp → add_answer m k s ≡ Err (StaleStamp k)
-  add_stale stale =
-      let a = lt-leb m.keys k known in
-      let b = le-leb s (newest (m.versions k)).stamp stale in
-      rw (a, b) refl
-
   module _ (later : (newest (m.versions k)).stamp < s) where
     pub add_full : m.cells ≤ kept m → add_answer m k s ≡ Err (Full k)
     add_full full =
@@ -125,5 +119,5 @@ module _ (m : Store) (k s : ℕ) (known : k < m.keys) where
 pub added_refused : (m : Store) (k s v : ℕ) (f : StoreFault) → add_answer m k s ≡ Err f → m ≡ added m k s v
 added_refused m k s v f e = rw e refl
 
-pub added_done : (m : Store) (k s v : ℕ) → add_answer m k s ≡ Ok tt → put k s v m ≡ added m k s v
+pub added_done : (m : Store) (k s v : ℕ) → add_answer m k s ≡ Ok tt → with_version k s v m ≡ added m k s v
 added_done m k s v e = rw e refl

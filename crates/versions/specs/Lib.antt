@@ -1,4 +1,4 @@
 pub mod Faults
-pub mod Meaning
+pub mod Stores
 pub mod Log
 pub mod LogStores

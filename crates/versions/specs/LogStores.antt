@@ -1,9 +1,9 @@
 -- What a log store shows.
 use Rattle.std.specs.Prelude.{List}
-use Rattle.stamped.specs.Packing.{room}
+use Rattle.stamped.specs.Packing.{capacity}
 use Rattle.versions.specs.declared.store.Version.{Version}
 use Rattle.versions.specs.declared.log.LogStore.{LogStore}
-use Rattle.versions.specs.Meaning.{Store}
+use Rattle.versions.specs.Stores.{Store}
 use Rattle.versions.specs.Log.{store_of_log}
 
 -- its versions in the order of adding
@@ -15,4 +15,4 @@ abbrev pub cells_behind : LogStore → List Version
 cells_behind s = s.versions.rest
 
 abbrev pub log_meaning : LogStore → Store
-log_meaning s = store_of_log s.keys (room s.versions) (log_of s)
+log_meaning s = store_of_log s.keys (capacity s.versions) (log_of s)

@@ -1,12 +1,12 @@
-ghost use Rattle.std.specs.Prelude.{◌≡◌, ◌≤◌, [], length, replicate, ◌==◌};
-ghost use Rattle.stamped.specs.Packing.{room};
-ghost use Rattle.versions.specs.Log.{store_of_log, Known, outdated_by, moment_answer, blank};
-ghost use Rattle.versions.specs.Meaning.{Lawful, set_up_answer, new_store};
+ghost use Rattle.std.specs.Prelude.{◌≡◌, [], length, replicate, ◌==◌};
+ghost use Rattle.stamped.specs.Packing.{capacity};
+ghost use Rattle.versions.specs.Log.{store_of_log, AreOfKeys, outdated_by, moment_answer, cleared_version};
+ghost use Rattle.versions.specs.Stores.{IsLawfulStore, sizes_check, new_store};
 
 use crate::fault::{SizeFault, StoreFault};
 use crate::store::{Version, VersionStore, check_sizes};
-use stamped::closing::Drops;
-use stamped::looking::{Moment, find_last};
+use stamped::gaps::Drops;
+use stamped::lookup::{Moment, find_last};
 use stamped::packed::Packed;
 
 /// Drops each version that a later one of its key, stamped below the horizon, outdates.
@@ -28,8 +28,8 @@ impl Drops<Version> for Outdated {
 pub struct LogStore<'a> {
     keys: u16,
     versions: Packed<'a, Version>,
-    ghost known: { Known keys versions.records },
-    ghost lawful: { Lawful (store_of_log keys (room versions) versions.records) },
+    ghost known: { AreOfKeys keys versions.records },
+    ghost lawful: { IsLawfulStore (store_of_log keys (capacity versions) versions.records) },
 }
 
 impl<'a> LogStore<'a> {
@@ -37,7 +37,7 @@ impl<'a> LogStore<'a> {
 
     /// Whether a log store can be made with so many keys over so many cells.
     pub fn check(keys: u16, cells: usize) -> Result<(), SizeFault>
-        ensures { result ≡ set_up_answer keys cells }
+        ensures { result ≡ sizes_check keys cells }
     {
         check_sizes(keys, cells)
     }
@@ -45,9 +45,9 @@ impl<'a> LogStore<'a> {
     /// An empty store over cleared cells; one without keys and cells where the check refuses.
     pub fn make(keys: u16, cells: &'a mut [Version]) -> LogStore<'a>
         ensures empty { log_meaning result ≡
-            new_store (set_up_answer keys (length cells.old)) keys (length cells.old) }
+            new_store (sizes_check keys (length cells.old)) keys (length cells.old) }
         ensures none { log_of result ≡ [] }
-        ensures cleared { cells_behind result ≡ replicate (length (cells_behind result)) blank }
+        ensures cleared { cells_behind result ≡ replicate (length (cells_behind result)) cleared_version }
     {
         cells.fill(Version::CLEARED);
         if Self::check(keys, cells.len()).is_err() {

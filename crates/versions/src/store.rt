@@ -1,18 +1,19 @@
 ghost use Rattle.std.specs.Prelude.{◌≡◌};
-ghost use Rattle.versions.specs.Meaning.{Store, Lawful, kept, free, newest_answer, as_of_answer, add_answer, added, pruned_count, pruned, set_up_answer};
+ghost use Rattle.versions.specs.Stores.{Store, IsLawfulStore, kept, free, newest_answer, as_of_answer, add_answer, added, pruned_count, pruned, sizes_check};
 
 use crate::fault::{SizeFault, StoreFault};
-pub use stamped::MAX_KEYS;
-use stamped::Stamped;
+use stamped::{Stamped, keys_outside};
 
 /// The most cells that a store has.
 pub const MAX_CELLS: usize = 2048;
 
 /// Whether a store can have so many keys and so many cells.
 pub fn check_sizes(keys: u16, cells: usize) -> Result<(), SizeFault>
-    ensures { result ≡ set_up_answer keys cells }
+    ensures answer { result ≡ sizes_check keys cells }
+    // The definitions cite it by its name.
+    ensures limit { MAX_CELLS ≡ 2048 }
 {
-    if keys == 0 || keys > MAX_KEYS {
+    if keys_outside(keys) {
         return Err(SizeFault::Keys { keys });
     }
     if cells == 0 || cells > MAX_CELLS {
@@ -88,5 +89,5 @@ pub trait VersionStore {
         ensures { result ≡ free (meaning self.now) };
 
     // What holds of every store, for generic code to cite.
-    ghost lawful: { (s : Self) → Lawful (meaning s) };
+    ghost lawful: { (s : Self) → IsLawfulStore (meaning s) };
 }

@@ -2,7 +2,7 @@ use crate::fault::{SizeFault, StoreFault};
 use crate::log::LogStore;
 use crate::store::{Version, VersionStore};
 
-const BLANK: Version = Version {
+const VERSION: Version = Version {
     key: 9,
     stamp: 9,
     value: 9,
@@ -11,7 +11,7 @@ const BLANK: Version = Version {
 // The checks of add come in the order key, stamp, cells.
 #[test]
 fn add_refuses_in_order(rt: HostRuntime) {
-    let mut cells = [BLANK; 2];
+    let mut cells = [VERSION; 2];
     let mut store = LogStore::make(3, &mut cells);
     assert_eq!(rt; store.newest(2), Ok((0, 0)));
     assert_eq!(rt; store.add(2, 0, 7), Err(StoreFault::StaleStamp { key: 2 }));
@@ -30,7 +30,7 @@ fn add_refuses_in_order(rt: HostRuntime) {
 
 // How many versions a prune removes of a key stamped 2, 4 and 6 and another stamped 3.
 fn removed(horizon: u32) -> (u16, u32) {
-    let mut cells = [BLANK; 4];
+    let mut cells = [VERSION; 4];
     let mut store = LogStore::make(1024, &mut cells);
     let _ = store.add(1023, 2, 20);
     let _ = store.add(0, 3, 30);
@@ -70,10 +70,10 @@ fn is_void(keys: u16, cells: &mut [Version]) -> bool {
 
 #[test]
 fn refused_set_ups_make_void_stores(rt: HostRuntime) {
-    assert!(rt; is_void(0, &mut [BLANK; 2]));
-    assert!(rt; is_void(1025, &mut [BLANK; 2]));
+    assert!(rt; is_void(0, &mut [VERSION; 2]));
+    assert!(rt; is_void(1025, &mut [VERSION; 2]));
     assert!(rt; is_void(1, &mut []));
-    assert!(rt; is_void(1, &mut [BLANK; 2049]));
+    assert!(rt; is_void(1, &mut [VERSION; 2049]));
 }
 
 #[test]

@@ -1,6 +1,6 @@
 // Any of the calls, as a value.
 ghost use Rattle.std.specs.Prelude.{◌≡◌, OnErr};
-ghost use Rattle.engine.specs.Steps.{Refines, Idle, GoesOn};
+ghost use Rattle.engine.specs.Steps.{Refines, StaysIdle, GoesOn};
 
 use super::Engine;
 use ledger::{Call, Done, Fault};
@@ -13,7 +13,7 @@ impl<S: VersionStore, V: Validator> Engine<S, V> {
         ensures refines { Refines S.meaning V.meaning self.old self.new
             call buffer.old result buffer.new }
         ensures refusal { OnErr result ((self.new ≡ self.old) × (buffer.new ≡ buffer.old)) }
-        ensures idle { Idle self.old self.new }
+        ensures idle { StaysIdle self.old self.new }
         ensures history { GoesOn S.meaning V.meaning self.old self.new
             call buffer.old result buffer.new }
     {
@@ -25,7 +25,7 @@ impl<S: VersionStore, V: Validator> Engine<S, V> {
         ensures refines { Refines S.meaning V.meaning self.old self.new
             call buffer.old result buffer.new }
         ensures refusal { OnErr result ((self.new ≡ self.old) × (buffer.new ≡ buffer.old)) }
-        ensures idle { Idle self.old self.new }
+        ensures idle { StaysIdle self.old self.new }
     {
         match call {
             Call::Begin(kind) => self.begin(kind).map(|handle| Done::Began { handle }),

@@ -3,14 +3,15 @@ ghost use Rattle.std.specs.Prelude.{◌≡◌, ◌<◌, Ok, OnErr};
 ghost use Rattle.ledger.specs.declared.Call.TheVariants.{Reclaim, Commit};
 ghost use Rattle.ledger.specs.declared.Done.TheVariants.{Reclaimed, Ended};
 ghost use Rattle.std.specs.Option.{option_map};
+ghost use Rattle.refusals.specs.Results.{result_map};
 ghost use Rattle.ledger.specs.Ledger.{shortage};
-ghost use Rattle.versions.specs.Meaning.{kept};
-ghost use Rattle.validation.specs.Meaning.{clash_answer};
+ghost use Rattle.versions.specs.Stores.{kept};
+ghost use Rattle.validation.specs.Stamps.{clash_answer};
 ghost use Rattle.transaction_table.specs.View.{ranges};
 ghost use Rattle.engine.specs.Endings.{named, first_named, all_added, all_noted};
-ghost use Rattle.engine.specs.Verdicts.{MakesRoom, Judges};
+ghost use Rattle.engine.specs.Verdicts.{ReclaimsIfShort, Judges};
 ghost use Rattle.engine.specs.Parts.{table_of};
-ghost use Rattle.engine.specs.Steps.{RefinesUnlent, Idle, answer_by};
+ghost use Rattle.engine.specs.Steps.{RefinesUnlent, StaysIdle};
 
 use super::Engine;
 use ledger::{Call, Fault, Kind, Range, Verdict, Write};
@@ -39,9 +40,9 @@ impl<S: VersionStore, V: Validator> Engine<S, V> {
     /// was committed since it began, or ticks or cells are lacking.
     pub fn commit(&mut self, handle: u32) -> Result<Verdict, Fault>
         ensures refines { RefinesUnlent S.meaning V.meaning self.old self.new
-            (Commit handle) (answer_by Ended result) }
+            (Commit handle) (result_map Ended result) }
         ensures refusal { OnErr result (self.new ≡ self.old) }
-        ensures idle { Idle self.old self.new }
+        ensures idle { StaysIdle self.old self.new }
     {
         let slot = self.place(handle)?;
         let keys = self.store.keys();
@@ -58,10 +59,10 @@ impl<S: VersionStore, V: Validator> Engine<S, V> {
     /// The verdict on an updater, which is still active. Where it is committed, the next tick is drawn and its writes are versions.
     fn judge(&mut self, updater: &Record) -> Verdict
         ensures judges { Judges S.meaning V.meaning self.old self.new updater.now result }
-        ensures idle { Idle self.old self.new }
+        ensures idle { StaysIdle self.old self.new }
     {
         let writes = updater.writes.as_slice();
-        self.make_room(writes.len());
+        self.reclaim_if_short(writes.len());
         if let Some(Clash { key, stamp }) = self.clash(updater) {
             return Verdict::Restart { key, stamp };
         }
@@ -70,7 +71,7 @@ impl<S: VersionStore, V: Validator> Engine<S, V> {
         }
         if let Some(free) = self.shortage(writes.len()) {
             return Verdict::Full {
-                // A write list is short.
+                // At most `MAX_WRITES`, which 16 bits hold.
                 writes: writes.len() as u16,
                 free,
             };
@@ -83,10 +84,10 @@ impl<S: VersionStore, V: Validator> Engine<S, V> {
     }
 
     /// Reclaims, if fewer cells are free than versions are to be added.
-    fn make_room(&mut self, versions: usize)
-        ensures fits { MakesRoom S.meaning V.meaning self.old self.new versions }
+    fn reclaim_if_short(&mut self, versions: usize)
+        ensures fits { ReclaimsIfShort S.meaning V.meaning self.old self.new versions }
         ensures table { self.new.table ≡ self.old.table }
-        ensures idle { Idle self.old self.new }
+        ensures idle { StaysIdle self.old self.new }
     {
         if self.shortage(versions).is_some() {
             self.reclaim();
@@ -143,7 +144,7 @@ impl<S: VersionStore, V: Validator> Engine<S, V> {
     {
         let tick = self.table.clock;
         for write in writes {
-            // There is room, and the tick is above every stamp, so neither refuses.
+            // Cells are free, and the tick is above every stamp, so neither refuses.
             let _ = self.store.add(write.key, tick, write.value);
             let _ = self.validator.note(write.key, tick);
         }

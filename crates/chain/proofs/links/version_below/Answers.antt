@@ -1,5 +1,5 @@
 use Rattle.std.proofs.Common.{ℕ, Option, ap, ◌∙◌}
-use Rattle.versions.specs.Meaning.{pair_of}
+use Rattle.versions.specs.Stores.{pair_of}
 use Rattle.chain.specs.Links.{list_from, version_of}
 use Rattle.chain.proofs.Chains.{first_inside}
 use Rattle.chain.proofs.Adds.{as_of_first}

@@ -4,8 +4,8 @@ use Rattle.std.proofs.lemmas.Result.{on_ok_weaker}
 use Rattle.club.proofs.Afternoons.{tells, tells_same}
 use Rattle.club.proofs.afternoon.run.Goals as goal
 
-pub returns-clause-told : goal.returns-clause-told
-returns-clause-told g c =
+pub returns-clause-known : goal.returns-clause-known
+returns-clause-known g c =
     let done = c.in_ok-lines.ensures in
     on_ok_weaker c.flush.result
     (λ _. IfSome_then (reader_remaining g.R.Read.remaining c.args.input.now) done.3

@@ -1,6 +1,6 @@
+use Rattle.refusals.specs.Results.{result_map}
 use Rattle.std.proofs.Common.{rules, ◌≡◌}
 use Rattle.club.specs.declared.said.Said.TheVariants.{Ended as SaidEnded, Report as SaidReport}
-use Rattle.std.specs.Result.{result_map_both}
 use Rattle.procedures.proofs.Performances.{performs_on, performs_pure, performs_begin, performs_commit, performs_reclaim}
 use Rattle.club.proofs.desk.Desk.act.Goals as goal
 
@@ -21,10 +21,10 @@ returns-in-CleanUp-clause-performs g c = rw c.in-CleanUp.is (performs_on _ (perf
 
 pub returns-in-Report-clause-performs : goal.returns-in-Report-clause-performs
 returns-in-Report-clause-performs g c =
-    let r : c.map.result ≡ result_map_both SaidReport (λ e. e) c.begin.result = search rules in
+    let r : c.map.result ≡ result_map SaidReport c.begin.result = search rules in
     rw (c.in-Report.is, r) (performs_on _ (performs_begin c.begin.result c.begin.ensures.refines c.begin.ensures.idle) (performs_pure _))
 
 pub returns-in-Close-clause-performs : goal.returns-in-Close-clause-performs
 returns-in-Close-clause-performs g c =
-    let r : c.map-in-Close.result ≡ result_map_both SaidEnded (λ e. e) c.commit.result = search rules in
+    let r : c.map-in-Close.result ≡ result_map SaidEnded c.commit.result = search rules in
     rw (c.in-Close.is, r) (performs_on _ (performs_commit c.commit.result c.commit.ensures.refines c.commit.ensures.idle) (performs_pure _))

@@ -7,8 +7,8 @@ use Rattle.ledger.specs.declared.Kind.{Kind}
 use Rattle.ledger.specs.Calls.{fresh}
 use Rattle.transaction_table.specs.declared.record.Record.{Record}
 use Rattle.transaction_table.specs.View.{active_of}
-use Rattle.transaction_table.specs.Places.{is_free, new_record, begun_active}
-use Rattle.transaction_table.specs.Shuffle.{Shuffle}
+use Rattle.transaction_table.specs.Slots.{is_free, new_record, begun_active}
+use Rattle.transaction_table.specs.Shuffle.{IsShuffle}
 use Rattle.transaction_table.proofs.Searches.{refused_search, found_search, first_changed-set}
 use Rattle.transaction_table.proofs.Slots.{none_vacant, roomy, vacant_at, slots_open, new_view, new_taken}
 use Rattle.transaction_table.proofs.Shuffles.{shuffle_refl}
@@ -21,7 +21,7 @@ returns-in_err-slot-clause-answer c =
     let p = refused_search c.from_residual.result c.vacant.result TooManyActive c.in_err-slot.field-0.0 c.from_residual.ensures.1 c.in_err-slot.ensures.value in
     rw (p.0, none_vacant rs n (p.1 ∙ c.vacant.ensures))
 
-refused_none : (r : Result ℕ Fault) (kind : Kind) (rs : List Record) → IsErr r → Shuffle (begun_active r kind rs) (active_of rs)
+refused_none : (r : Result ℕ Fault) (kind : Kind) (rs : List Record) → IsErr r → IsShuffle (begun_active r kind rs) (active_of rs)
 refused_none (Ok x) kind rs e = cc
 refused_none (Err f) kind rs e = shuffle_refl _
 
@@ -58,6 +58,6 @@ returns-clause-active c =
     let kind = c.args.kind in
     let e = found_search c.vacant.result TooManyActive c.in_ok-slot.slot c.in_ok-slot.ensures.value ∙ c.vacant.ensures in
     let v = vacant_at t.records c.in_ok-slot.slot e in
-    subst (λ r. Shuffle (fresh (t.clock + 1) kind ∷ active_of t.records) (active_of (set t.records c.in_ok-slot.slot r))) (sym c.new.ensures)
-    (subst (λ u. Shuffle (u ∷ active_of t.records) (active_of (set t.records c.in_ok-slot.slot (new_record (t.clock + 1) kind)))) (new_view (t.clock + 1) kind)
+    subst (λ r. IsShuffle (fresh (t.clock + 1) kind ∷ active_of t.records) (active_of (set t.records c.in_ok-slot.slot r))) (sym c.new.ensures)
+    (subst (λ u. IsShuffle (u ∷ active_of t.records) (active_of (set t.records c.in_ok-slot.slot (new_record (t.clock + 1) kind)))) (new_view (t.clock + 1) kind)
     (slots_open t.records c.in_ok-slot.slot v.0 (new_record (t.clock + 1) kind) v.1 v.2 (new_taken (t.clock + 1) kind)))

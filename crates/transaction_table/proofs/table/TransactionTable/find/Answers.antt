@@ -3,7 +3,7 @@ use borrow.Author.Tests.{tests}
 use Rattle.std.proofs.lemmas.Iterator.{YieldsList-from_slice}
 use Rattle.std.proofs.lemmas.Iterator.Search.{position_from_yields_List}
 use Rattle.ledger.specs.declared.TheConstants.{MAX_ACTIVE}
-use Rattle.transaction_table.specs.Places.{has_handle, free_record}
+use Rattle.transaction_table.specs.Slots.{has_handle, free_record}
 use Rattle.transaction_table.proofs.Searches.{position_within}
 use Rattle.transaction_table.proofs.table.TransactionTable.find.Goals as goal
 

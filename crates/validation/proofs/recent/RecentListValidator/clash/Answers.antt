@@ -1,6 +1,6 @@
 use Rattle.std.proofs.Common.{◌≡◌, ◌+◌, ◌<◌, List, length, get_or, sym, ap, arith}
 use Rattle.validation.specs.declared.entry.Entry.{Entry}
-use Rattle.validation.specs.Recent.{list_stamps, blank}
+use Rattle.validation.specs.Recent.{list_stamps, cleared_entry}
 use Rattle.validation.proofs.Answering.{clash_answered}
 use Rattle.validation.proofs.Recents.{looked_hit, looked_miss, looked_all}
 use Rattle.validation.proofs.recent.RecentListValidator.clash.Goals as goal
@@ -12,9 +12,9 @@ loop-entry-preserved c =
     let es = s.entries.records in
     let l = c.loop-entry in
     let items = c.as_slice-entry-items.result.now in
-    let e = get_or items l.entry-index blank in
+    let e = get_or items l.entry-index cleared_entry in
     let in' : l.entry-index < length es = omega (arith, ap length c.as_slice-entry-items.ensures, c.loop-entry-test.true) in
-    let is : get_or es l.entry-index blank ≡ e = ap (λ (xs : List Entry). get_or xs l.entry-index blank) (sym c.as_slice-entry-items.ensures) in
+    let is : get_or es l.entry-index cleared_entry ≡ e = ap (λ (xs : List Entry). get_or xs l.entry-index cleared_entry) (sym c.as_slice-entry-items.ensures) in
     let hit = looked_hit s.keys es s.once c.args.start c.args.first (c.args.first + c.args.count) l.end l.lowest l.entry-index l.invariant in' e is in
     let miss = looked_miss s.keys es s.once c.args.start c.args.first (c.args.first + c.args.count) l.end l.lowest l.entry-index l.invariant in' e is in
     elim c.if-entry-first.branch [

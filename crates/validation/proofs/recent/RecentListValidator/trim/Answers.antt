@@ -1,5 +1,5 @@
 use Rattle.std.proofs.Common.{◌∙◌}
-use Rattle.stamped.proofs.Closings.{room-closed}
+use Rattle.stamped.proofs.Closings.{capacity-closed}
 use Rattle.validation.proofs.Recents.{older, once_closed, list_trimmed}
 use Rattle.validation.proofs.recent.RecentListValidator.trim.Goals as goal
 
@@ -8,7 +8,7 @@ invariant_of-self c =
     let s = c.args.self.now in
     rw c.close_gaps.ensures (record {
       few = s.few;
-      places = room-closed (older c.args.tick) s.entries ∙ s.places;
+      places = capacity-closed (older c.args.tick) s.entries ∙ s.places;
       once = once_closed (older c.args.tick) s.keys s.entries.records s.once;
     })
 

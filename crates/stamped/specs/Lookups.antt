@@ -1,17 +1,17 @@
 -- A look-up in a list of records that carry a key and a stamp.
 use Rattle.std.specs.Prelude.{ℕ, suc, Bool, true, if◌then◌else◌, ◌&&◌, List, [], ◌∷◌, Some, None, Option, ◌==◌, nat_lt}
 use Rattle.std.specs.Option.{option_map, option_or}
-use Rattle.stamped.specs.declared.looking.Moment.{Moment}
-use Rattle.stamped.specs.declared.looking.Moment.TheVariants.{Now, Before}
+use Rattle.stamped.specs.declared.lookup.Moment.{Moment}
+use Rattle.stamped.specs.declared.lookup.Moment.TheVariants.{Now, Before}
 
 -- whether a stamp counts at a moment
-abbrev pub counts : Moment → ℕ → Bool
-counts Now s = true
-counts (Before t) s = nat_lt s t
+abbrev pub takes : Moment → ℕ → Bool
+takes Now s = true
+takes (Before t) s = nat_lt s t
 
 -- whether a record has this key, and a stamp that counts at the moment
-abbrev pub is_of : ℕ → Moment → ℕ → ℕ → Bool
-is_of key moment k s = k == key && counts moment s
+abbrev pub matches : ℕ → Moment → ℕ → ℕ → Bool
+matches key moment k s = k == key && takes moment s
 
 -- the last index at which p passes
 abbrev pub last_position : {X : Type 0} → (X → Bool) → List X → Option ℕ

@@ -1,6 +1,6 @@
--- Which record a transaction is in, and what a begin and an end make of the table.
+-- Which record a transaction is in, and what a begin makes of the table.
 use Rattle.std.specs.Prelude.{ℕ, ◌+◌, Bool, if◌then◌else◌, not, ◌&&◌, List, [], ◌∷◌, length, replicate, Ok, Err, Result, ◌==◌}
-use Rattle.std.specs.Result.{result_map_both}
+use Rattle.refusals.specs.Results.{result_map}
 use Rattle.ledger.specs.declared.Fault.{Fault}
 use Rattle.ledger.specs.declared.Kind.{Kind}
 use Rattle.ledger.specs.declared.Kind.TheVariants.{Reader, Updater}
@@ -27,13 +27,13 @@ abbrev pub first_changed : {X : Type 0} → (X → Bool) → (X → X) → List 
 first_changed p f [] = []
 first_changed p f (x ∷ xs) = if p x then f x ∷ xs else x ∷ first_changed p f xs
 
-abbrev pub of_kind : Kind → Kind → Bool
-of_kind Reader k = is_reader k
-of_kind Updater k = not (is_reader k)
+abbrev pub is_of_kind : Kind → Kind → Bool
+is_of_kind Reader k = is_reader k
+is_of_kind Updater k = not (is_reader k)
 
 -- a transaction of this kind is in the record
 abbrev pub holds_kind : Kind → State → Bool
-holds_kind kind s = taken s && of_kind kind (kind_of s)
+holds_kind kind s = taken s && is_of_kind kind (kind_of s)
 
 -- what a record is that holds a transaction of this kind
 abbrev pub state_of : Kind → State
@@ -53,7 +53,7 @@ new_table last = record { clock = 0; last = last; records = replicate MAX_ACTIVE
 
 -- the ledger's check of a begin, and the next tick once it is passed
 abbrev pub begin_answer : TransactionTable → Result ℕ Fault
-begin_answer t = result_map_both (λ _. t.clock + 1) (λ f. f) (begin_check (length (active_of t.records)) t.clock t.last)
+begin_answer t = result_map (λ _. t.clock + 1) (begin_check (length (active_of t.records)) t.clock t.last)
 
 -- the next tick is drawn, and the first free record has the transaction that begins at it
 abbrev pub begun : Kind → TransactionTable → TransactionTable

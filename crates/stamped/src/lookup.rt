@@ -1,5 +1,5 @@
-ghost use Rattle.std.specs.Prelude.{◌≡◌, Bool};
-ghost use Rattle.stamped.specs.Look.{counts, is_of, last_position};
+ghost use Rattle.std.specs.Prelude.{◌≡◌};
+ghost use Rattle.stamped.specs.Lookups.{takes, matches, last_position};
 
 use crate::Stamped;
 
@@ -14,7 +14,7 @@ pub enum Moment {
 impl Moment {
     /// Whether a stamp counts at this moment.
     pub fn takes(self, stamp: u32) -> bool
-        ensures { result ≡ counts self stamp }
+        ensures { result ≡ takes self stamp }
     {
         match self {
             Moment::Now => true,
@@ -26,7 +26,7 @@ impl Moment {
 /// The index of the last record of the key that counts at the moment, or none where no record is such.
 pub fn find_last<T: Stamped>(records: &[T], key: u16, moment: Moment) -> Option<usize>
     ensures { result ≡ last_position
-        (λ x. is_of key moment (T.Stamped.key_of x) (T.Stamped.stamp_of x)) records.now }
+        (λ x. matches key moment (T.Stamped.key_of x) (T.Stamped.stamp_of x)) records.now }
 {
     records.iter().rposition(|record| record.key() == key && moment.takes(record.stamp()))
 }

@@ -1,8 +1,8 @@
 use Rattle.std.proofs.Common.{◌≡◌, ◌+◌, ◌-◌, Bool, length, take, drop, sym, ap, ◌∙◌, arith}
 use Rattle.std.proofs.lemmas.List.{take_rest}
 use Rattle.stamped.proofs.Closings.{closing_none, closing_more_gone, closing_more_kept, closing_count, closing_places}
-use Rattle.stamped.proofs.closing.close_gaps.Goals as goal
-use Rattle.stamped.proofs.closing.close_gaps.Goals.{then-not-drops, else-not-drops}
+use Rattle.stamped.proofs.gaps.close_gaps.Goals as goal
+use Rattle.stamped.proofs.gaps.close_gaps.Goals.{then-not-drops, else-not-drops}
 
 pub loop-i-init : goal.loop-i-init
 loop-i-init g c = closing_none (g.R.Drops.drops c.args.rule.now) c.args.records.now

@@ -2,10 +2,10 @@
 use Rattle.std.specs.Prelude.{ℕ, if◌then◌else◌}
 use Rattle.std.specs.Option.{unwrap_or}
 use Rattle.ledger.specs.Ledger.{Transaction, moment_of, is_reader, own_write}
-use Rattle.versions.specs.Meaning.{Store, newest, as_of}
+use Rattle.versions.specs.Stores.{Store, newest, as_of}
 
--- a reader as of its start, an updater its own write or else the newest value
-abbrev pub shown : Store → Transaction → ℕ → ℕ
-shown s t k =
+-- a reader as of its moment, an updater its own write or else the newest value
+abbrev pub read_value : Store → Transaction → ℕ → ℕ
+read_value s t k =
     if is_reader t.kind then (as_of (moment_of t) (s.versions k)).value
     else unwrap_or (own_write k t.writes) (newest (s.versions k)).value

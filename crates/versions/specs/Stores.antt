@@ -2,7 +2,8 @@
 use Rattle.std.specs.Prelude.{◌≡◌, ℕ, zero, suc, ◌+◌, ◌-◌, ◌≤◌, Bool, true, if◌then◌else◌, not, ◌&&◌, ◌||◌, List, [], ◌∷◌, length, Ok, Err, filter, Result, ◌==◌, nat_eq, nat_le, nat_lt}
 use Rattle.std.specs.List.{find, list_any}
 use Rattle.std.specs.Option.{unwrap_or}
-use Rattle.std.specs.Result.{is_ok}
+use Rattle.std.specs.Result.{is_ok, result_and}
+use Rattle.refusals.specs.Results.{result_map}
 use Rattle.stamped.specs.declared.TheConstants.{MAX_KEYS}
 use Rattle.stamped.specs.Sizes.{keys_outside}
 use Rattle.versions.specs.declared.fault.StoreFault.{StoreFault}
@@ -61,30 +62,32 @@ free m = m.cells - kept m
 abbrev pub pair_of : Revision → ℕ × ℕ
 pair_of v = (v.stamp, v.value)
 
+-- a store has the keys below so many
+abbrev pub key_check : ℕ → ℕ → Result (Unit {0}) StoreFault
+key_check keys k = if nat_le keys k then Err (KeyOutside k) else Ok tt
+
 abbrev pub newest_answer : Store → ℕ → Result (ℕ × ℕ) StoreFault
-newest_answer m k =
-    if nat_le m.keys k then Err (KeyOutside k) else Ok (pair_of (newest (m.versions k)))
+newest_answer m k = result_map (λ _. pair_of (newest (m.versions k))) (key_check m.keys k)
 
 abbrev pub as_of_answer : Store → ℕ → ℕ → Result (ℕ × ℕ) StoreFault
-as_of_answer m k tick =
-    if nat_le m.keys k then Err (KeyOutside k) else Ok (pair_of (as_of tick (m.versions k)))
+as_of_answer m k tick = result_map (λ _. pair_of (as_of tick (m.versions k))) (key_check m.keys k)
 
 abbrev pub add_answer : Store → ℕ → ℕ → Result (Unit {0}) StoreFault
 add_answer m k s =
-    if nat_le m.keys k then Err (KeyOutside k)
-    else if nat_le s (newest (m.versions k)).stamp then Err (StaleStamp k)
+    result_and (key_check m.keys k)
+    (if nat_le s (newest (m.versions k)).stamp then Err (StaleStamp k)
     else if nat_le m.cells (kept m) then Err (Full k)
-    else Ok tt
+    else Ok tt)
 
 -- a version more at the front of one key's list
-abbrev pub put : ℕ → ℕ → ℕ → Store → Store
-put k s v m =
+abbrev pub with_version : ℕ → ℕ → ℕ → Store → Store
+with_version k s v m =
     let new : Revision = record { stamp = s; value = v } in
     record m { versions = λ j. if k == j then (new ∷ m.versions j) else m.versions j }
 
 -- the store after an add; a refused one changes nothing
 abbrev pub added : Store → ℕ → ℕ → ℕ → Store
-added m k s v = if is_ok (add_answer m k s) then put k s v m else m
+added m k s v = if is_ok (add_answer m k s) then with_version k s v m else m
 
 abbrev pub survivors : ℕ → List Revision → List Revision
 survivors horizon vs = filter (λ v. not (outdated horizon vs v)) vs
@@ -103,22 +106,22 @@ falls [] = true
 falls (v ∷ vs) = nat_lt (newest vs).stamp v.stamp && falls vs
 
 -- those of each key do
-abbrev pub Falling : (ℕ → List Revision) → Type 0
-Falling versions = (k : ℕ) → falls (versions k) ≡ true
+abbrev pub AreFalling : (ℕ → List Revision) → Type 0
+AreFalling versions = (k : ℕ) → falls (versions k) ≡ true
 
 -- what holds of every store
-pub record Lawful (m : Store) : Type 0 where
-  pub falling : Falling m.versions
+pub record IsLawfulStore (m : Store) : Type 0 where
+  pub falling : AreFalling m.versions
   pub inside : (k : ℕ) → m.keys ≤ k → m.versions k ≡ []
-  pub room : kept m ≤ m.cells
+  pub within_cells : kept m ≤ m.cells
   pub few_keys : m.keys ≤ MAX_KEYS
   pub few_cells : m.cells ≤ MAX_CELLS
   -- a store from a refused set-up has no keys and no cells; any other has both
   pub both : nat_eq m.keys 0 ≡ (m.cells == 0)
 
 -- set-up: the keys, then the cells
-abbrev pub set_up_answer : ℕ → ℕ → Result (Unit {0}) SizeFault
-set_up_answer keys cells =
+abbrev pub sizes_check : ℕ → ℕ → Result (Unit {0}) SizeFault
+sizes_check keys cells =
     if keys_outside keys then Err (Keys keys)
     else if cells == 0 || nat_lt MAX_CELLS cells then Err (Cells cells)
     else Ok tt

@@ -1,7 +1,7 @@
 -- The lines so far were answered.
 use Rattle.std.specs.Io.Buffered.{reader_remaining, writer_contents}
 use Rattle.club.proofs.Afternoons.{Telling}
-use Rattle.club.proofs.afternoon.answer_lines.Given as goal
+use Rattle.club.proofs.afternoon.answer_each.Given as goal
 
 abbrev pub invariant-loop-number : goal.invariant-loop-number
 invariant-loop-number g l =

@@ -6,20 +6,20 @@ use Rattle.ledger.specs.declared.Fault.{Fault}
 use Rattle.ledger.specs.declared.Verdict.TheVariants.{Restart, Full}
 use Rattle.ledger.specs.declared.Done.{Done}
 use Rattle.ledger.specs.Ledger.{Shortage}
-use Rattle.ledger.specs.Calls.{Clash}
-use Rattle.ledger.specs.History.{Made, Deed, commits, deed, Operation, look, put, operations, is_begin_of}
+use Rattle.ledger.specs.Calls.{StaleRead}
+use Rattle.ledger.specs.History.{Made, Deed, commits, deed, Operation, read_range, write_key, operations, is_begin_of}
 
 -- the keys that these operations read: the reads in their order, the keys of each rising
 abbrev pub keys_read : List Operation → List ℕ
 keys_read [] = []
-keys_read (look k n ∷ more) = range_with_len k n ++ keys_read more
-keys_read (put k x ∷ more) = keys_read more
+keys_read (read_range k n ∷ more) = range_with_len k n ++ keys_read more
+keys_read (write_key k x ∷ more) = keys_read more
 
 -- one of these operations writes into the granule of the key k
 abbrev pub writes_into : (ℕ → ℕ) → ℕ → List Operation → Bool
 writes_into g k [] = false
-writes_into g k (look j n ∷ more) = writes_into g k more
-writes_into g k (put j x ∷ more) = g j == g k || writes_into g k more
+writes_into g k (read_range j n ∷ more) = writes_into g k more
+writes_into g k (write_key j x ∷ more) = g j == g k || writes_into g k more
 
 -- the tick of a commit, if its updater wrote into the granule of the key k, else 0; the operations of each are given
 abbrev pub tick_into : (ℕ → ℕ) → ℕ → (ℕ → List Operation) → Deed → ℕ
@@ -42,12 +42,12 @@ is_overwritten g k h [] = false
 is_overwritten g k h (m ∷ ms) = not (is_begin_of h (deed m)) && (overwrites g k (λ h. operations h ms) (deed m) || is_overwritten g k h ms)
 
 -- the first of these keys that was overwritten since h began, with the greatest commit tick into its granule
-abbrev pub first_overwritten : (ℕ → ℕ) → List Made → ℕ → List ℕ → Option Clash
+abbrev pub first_overwritten : (ℕ → ℕ) → List Made → ℕ → List ℕ → Option StaleRead
 first_overwritten g ms h ks =
     option_map (λ k. record { key = k; stamp = commit_into g k ms }) (find (λ k. is_overwritten g k h ms) ks)
 
 -- what an answer names if it is a restart
-abbrev pub restart_of : Result Done Fault → Option Clash
+abbrev pub restart_of : Result Done Fault → Option StaleRead
 restart_of (Ok (Done.Ended (Restart k s))) = Some (record { key = k; stamp = s })
 restart_of _ = None
 

@@ -2,6 +2,8 @@
 use Rattle.std.specs.Prelude.{ℕ, zero, suc, ◌+◌, ◌≤◌, max, if◌then◌else◌, Ok, Err, Option, Result, find, is_ok, ◌==◌, nat_le, nat_lt}
 use Rattle.std.specs.List.{range_with_len}
 use Rattle.std.specs.Option.{option_map}
+use Rattle.std.specs.Result.{result_and}
+use Rattle.refusals.specs.Results.{result_map}
 use Rattle.stamped.specs.declared.TheConstants.{MAX_KEYS}
 use Rattle.validation.specs.declared.fault.ValidatorFault.{ValidatorFault}
 use Rattle.validation.specs.declared.fault.ValidatorFault.TheVariants.{KeyOutside, StaleStamp}
@@ -19,14 +21,16 @@ pub record Stamps : Type 0 where
 abbrev pub stamp_at : Stamps → ℕ → ℕ
 stamp_at m k = m.stamp (m.granule k)
 
+-- a validator has the keys below so many
+abbrev pub key_check : ℕ → ℕ → Result (Unit {0}) ValidatorFault
+key_check keys k = if nat_le keys k then Err (KeyOutside k) else Ok tt
+
 abbrev pub granule_answer : Stamps → ℕ → Result ℕ ValidatorFault
-granule_answer m k = if nat_le m.keys k then Err (KeyOutside k) else Ok (m.granule k)
+granule_answer m k = result_map (λ _. m.granule k) (key_check m.keys k)
 
 abbrev pub note_answer : Stamps → ℕ → ℕ → Result (Unit {0}) ValidatorFault
 note_answer m k s =
-    if nat_le m.keys k then Err (KeyOutside k)
-    else if nat_lt s (stamp_at m k) then Err (StaleStamp k)
-    else Ok tt
+    result_and (key_check m.keys k) (if nat_lt s (stamp_at m k) then Err (StaleStamp k) else Ok tt)
 
 abbrev pub with_stamps : Stamps → (ℕ → ℕ) → Stamps
 with_stamps m f = record m { stamp = f }
@@ -62,5 +66,5 @@ abbrev pub latest : Stamps → ℕ
 latest m = greatest_below m.keys (stamp_at m)
 
 -- what holds of every validator: keys within their limits, or none after a refused set-up
-abbrev pub Lawful : Stamps → Type 0
-Lawful m = m.keys ≤ MAX_KEYS
+abbrev pub IsLawfulValidator : Stamps → Type 0
+IsLawfulValidator m = m.keys ≤ MAX_KEYS

@@ -5,7 +5,7 @@ use Rattle.std.specs.Io.BufRead.{take_through, drop_through}
 use Rattle.club.specs.Lines.{text_of}
 use Rattle.club.proofs.Afternoons.{told_none, told_kept, told_line, told_all, none_left, if_some, some_taken}
 use Rattle.club.proofs.TextLines.{lines-few}
-use Rattle.club.proofs.afternoon.answer_lines.Goals as goal
+use Rattle.club.proofs.afternoon.answer_each.Goals as goal
 
 pub loop-number-init : goal.loop-number-init
 loop-number-init g c = told_none _ _ _ _ _ _ _ _

@@ -1,7 +1,7 @@
 ghost use Rattle.std.specs.Prelude.{◌≡◌, position, OnErr};
 ghost use Rattle.ledger.specs.Ledger.{own_write};
-ghost use Rattle.transaction_table.specs.View.{entries, no_writes};
-ghost use Rattle.transaction_table.specs.Lists.{writes_to, put_room, writes_with};
+ghost use Rattle.transaction_table.specs.View.{writes_of, no_writes};
+ghost use Rattle.transaction_table.specs.Lists.{writes_to, put_answer, writes_with};
 
 use super::{Bounded, Full, WriteList};
 use ledger::{MAX_WRITES, Write};
@@ -15,14 +15,14 @@ impl Bounded<Write, MAX_WRITES> {
 
     /// Where the key stands.
     fn place(&self, key: u16) -> Option<usize>
-        ensures { result ≡ position (writes_to key) (entries self.now) }
+        ensures { result ≡ position (writes_to key) (writes_of self.now) }
     {
         self.as_slice().iter().position(|write| write.key == key)
     }
 
     /// The value written to the key.
     pub fn value(&self, key: u16) -> Option<u64>
-        ensures { result ≡ own_write key (entries self.now) }
+        ensures { result ≡ own_write key (writes_of self.now) }
     {
         self.as_slice()
             .iter()
@@ -32,8 +32,8 @@ impl Bounded<Write, MAX_WRITES> {
 
     /// Puts a write in its key's old place, or behind the others.
     pub fn put(&mut self, write: Write) -> Result<(), Full>
-        ensures room { result ≡ put_room (entries self.old) write.key }
-        ensures after { entries self.new ≡ writes_with (entries self.old) write.key write.value }
+        ensures answer { result ≡ put_answer (writes_of self.old) write.key }
+        ensures after { writes_of self.new ≡ writes_with (writes_of self.old) write }
         ensures refusal { OnErr result (self.new ≡ self.old) }
     {
         if let Some(i) = self.place(write.key) {
