@@ -10,6 +10,7 @@ use callfile::stream::run;
 use chain::cell::Cell;
 use chain::store::ChainStore;
 use engine::engine::{Engine, LAST_TICK};
+use records::codec::CallFile;
 use std::alloc::Global;
 use std::io;
 use std::io::{BufReader, BufWriter, Read, Write};
@@ -42,7 +43,7 @@ fn answer_file<R: Read, W: Write + Drop>(
     let store = ChainStore::make(KEYS, &mut heads, &mut cells);
     let validator = StampTable::make(KEYS, GRAIN, &mut stamps);
     let mut engine = Engine::make(LAST_TICK, store, validator);
-    run(alloc, &mut engine, &mut buffer, input, output)
+    run::<CallFile, _, _, _, _>(alloc, &mut engine, &mut buffer, input, output)
 }
 
 fn main(rt: HostRuntime) -> io::Result<()> {

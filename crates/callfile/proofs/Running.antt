@@ -8,6 +8,7 @@ use Rattle.std.proofs.KnownBytes.{Appends-nil, Appends-trans, Appends-kept, Cons
 use Rattle.std.proofs.lemmas.Result.{MatchResult-weaker}
 use Rattle.std.proofs.Math.Seq.{take-append-add, take-append_seam, take-length}
 use Rattle.std.proofs.lemmas.List.Folds.{concat-append}
+use Rattle.ledger.specs.declared.Call.{Call}
 use Rattle.ledger.specs.Ledger.{Ledger}
 use Rattle.versions.specs.Stores.{Store}
 use Rattle.validation.specs.Stamps.{Stamps}
@@ -18,7 +19,6 @@ use Rattle.callfile.specs.Runs.{Answers, AnswersFile, AppendsLines, AppendsSome,
 use Rattle.callfile.specs.Steps.{Advances, GoesThrough, GrowsByLines, HandsOver}
 use Rattle.callfile.proofs.Pieces.{IsFull, records_of-full, records_of-part, records_of-whole}
 use Rattle.callfile.proofs.Answering.{answers_of_both, answers_no_record, answers_join}
-use Rattle.records.specs.Format.{decoded}
 use Rattle.answer_lines.specs.declared.LineFault.{LineFault}
 use Rattle.ledger.specs.declared.Done.{Done}
 use Rattle.callfile.specs.Lines.{line_text}
@@ -75,36 +75,36 @@ pub on_err : {T E P : Type 0} (r : Result T E) → P → OnErr r P
 on_err (Ok x) h = tt
 on_err (Err e) h = h
 
-module _ {S V : Type 0} (m : S → Store) (p : V → Stamps) where
+module _ {S V : Type 0} (d : List ℕ → Option Call) (m : S → Store) (p : V → Stamps) where
   -- A record's line
 
   -- a text grew by it
-  pub line_held : (e e' : Engine S V) (n : ℕ) (r : List ℕ) (b b' : List ℕ) (res : Result Done LineFault) (text text' : List ℕ) → HasResult m p e n r b res → Answers m p e e' n (r ∷ []) b b'
-      → text' ≡ text ++ (line_text n res b' ++ codes "\n") → GrowsByLines m p e n (r ∷ []) b text text'
+  pub line_held : (e e' : Engine S V) (n : ℕ) (r : List ℕ) (b b' : List ℕ) (res : Result Done LineFault) (text text' : List ℕ) → HasResult d m p e n r b res → Answers d m p e e' n (r ∷ []) b b'
+      → text' ≡ text ++ (line_text n res b' ++ codes "\n") → GrowsByLines d m p e n (r ∷ []) b text text'
   line_held e e' n r b b' res text text' result answers is l f =
-      is ∙ ap (λ x. text ++ x) (ap (λ x. line_text n x b' ++ codes "\n") (result l f) ∙ ap (λ x. line_text n (record_answer n l b (decoded r)).result x ++ codes "\n") (answers.buffer l f))
+      is ∙ ap (λ x. text ++ x) (ap (λ x. line_text n x b' ++ codes "\n") (result l f) ∙ ap (λ x. line_text n (record_answer n l b (d r)).result x ++ codes "\n") (answers.buffer l f))
 
   -- Lines, of which the last may still be held in a text
 
   -- From e to e' the records rs were answered: a beginning of their lines was written, and the text is the rest.
   pub record IsAnswered (e e' : Engine S V) (rs : List (List ℕ)) (b b' : List ℕ) (old new : Option (List ℕ)) (text : List ℕ) : Type 0 where
-    pub answers : Answers m p e e' 1 rs b b'
+    pub answers : Answers d m p e e' 1 rs b b'
     pub written : List ℕ
     appended : Appends old new written
-    pub lines : (l : Ledger) → FitsEngine m p l e → (answer_from 1 l b rs).lines ≡ written ++ text
+    pub lines : (l : Ledger) → FitsEngine m p l e → (answer_from d 1 l b rs).lines ≡ written ++ text
 
   -- more records were answered, and the text grew by their lines
   answered_join : (e e' e'' : Engine S V) (k : ℕ) (rs qs : List (List ℕ)) (b b' b'' : List ℕ) (old new : Option (List ℕ)) (text text' : List ℕ) → k ≡ 1 + length rs → IsAnswered e e' rs b b' old new text
-      → Answers m p e' e'' k qs b' b'' → GrowsByLines m p e' k qs b' text text' → IsAnswered e e'' (rs ++ qs) b b'' old new text'
+      → Answers d m p e' e'' k qs b' b'' → GrowsByLines d m p e' k qs b' text text' → IsAnswered e e'' (rs ++ qs) b b'' old new text'
   answered_join e e' e'' k rs qs b b' b'' old new text text' h one two grown = record {
     answers = answers_join e e' e'' 1 k rs qs b b' b'' h one.answers two;
     written = one.written;
     appended = one.appended;
     lines = λ l f.
-        let a = answer_from 1 l b rs in
-        let more = (answer_from k a.ledger a.buffer qs).lines in
-        let same = ap (λ x. (answer_from k a.ledger x qs).lines) (one.answers.buffer l f) in
-        (answers_of_both rs qs 1 k h l b).2
+        let a = answer_from d 1 l b rs in
+        let more = (answer_from d k a.ledger a.buffer qs).lines in
+        let same = ap (λ x. (answer_from d k a.ledger x qs).lines) (one.answers.buffer l f) in
+        (answers_of_both d rs qs 1 k h l b).2
         ∙ ap (λ ls. ls ++ more) (one.lines l f)
         ∙ append_assoc one.written text more
         ∙ ap (λ ls. one.written ++ ls) (ap (λ ls. text ++ ls) (sym same) ∙ sym (grown a.ledger (one.answers.ledger l f)));
@@ -120,11 +120,11 @@ module _ {S V : Type 0} (m : S → Store) (p : V → Stamps) where
   }
 
   -- so was all of it
-  answered_whole : (e e' : Engine S V) (rs : List (List ℕ)) (b b' : List ℕ) (old mid new : Option (List ℕ)) (text : List ℕ) → IsAnswered e e' rs b b' old mid text → Appends mid new text → AppendsLines m p e 1 rs b old new
+  answered_whole : (e e' : Engine S V) (rs : List (List ℕ)) (b b' : List ℕ) (old mid new : Option (List ℕ)) (text : List ℕ) → IsAnswered e e' rs b b' old mid text → Appends mid new text → AppendsLines d m p e 1 rs b old new
   answered_whole e e' rs b b' old mid new text before wrote l f = subst (Appends old new) (sym (before.lines l f)) (Appends-trans old mid new _ _ before.appended wrote)
 
   -- the text was begun
-  answered_begun : (e e' : Engine S V) (rs : List (List ℕ)) (b b' : List ℕ) (old mid new : Option (List ℕ)) (text : List ℕ) → IsAnswered e e' rs b b' old mid text → AppendsSome mid new text → AppendsSomeLines m p e 1 rs b old new
+  answered_begun : (e e' : Engine S V) (rs : List (List ℕ)) (b b' : List ℕ) (old mid new : Option (List ℕ)) (text : List ℕ) → IsAnswered e e' rs b b' old mid text → AppendsSome mid new text → AppendsSomeLines d m p e 1 rs b old new
   answered_begun e e' rs b b' old mid new text before some l f = (
     before.written ++ some.0,
     Appends-trans old mid new _ _ before.appended some.1,
@@ -163,14 +163,14 @@ module _ {S V : Type 0} (m : S → Store) (p : V → Stamps) where
 
   -- a full record more
   pub more_progress : {e e' e'' : Engine S V} {number : ℕ} {b b' b'' : List ℕ} {left left' left'' old new : Option (List ℕ)} {text text' : List ℕ}
-      → Progress e e' number b b' left left' old new text → Advances m p e' e'' number b' b'' left' left'' text text' true → Progress e e'' (number + 1) b b'' left left'' old new text'
+      → Progress e e' number b b' left left' old new text → Advances d m p e' e'' number b' b'' left' left'' text text' true → Progress e e'' (number + 1) b b'' left left'' old new text'
   more_progress {e} {e'} {e''} {number} {b} {b'} {b''} {left} {left'} {left''} {old} {new} {text} {text'} before next =
       let rs = before.done in
       let r = next.bytes in
       let full : length r ≡ 20 = next.whole refl in
       let one : records_of r ≡ r ∷ [] = records_of-part r (omega (arith, full)) (omega (arith, full)) in
-      let answers = subst (λ qs. Answers m p e' e'' number qs b' b'') one next.answers in
-      let lines = subst (λ qs. GrowsByLines m p e' number qs b' text text') one next.lines in
+      let answers = subst (λ qs. Answers d m p e' e'' number qs b' b'') one next.answers in
+      let lines = subst (λ qs. GrowsByLines d m p e' number qs b' text text') one next.lines in
       record {
         done = rs ++ (r ∷ []);
         full = full_push rs r before.full full;
@@ -180,7 +180,7 @@ module _ {S V : Type 0} (m : S → Store) (p : V → Stamps) where
       }
 
   -- an error behind the records so far, with some of the text written
-  pub stops_handing : {e e' : Engine S V} {number : ℕ} {b b' : List ℕ} {left left' old mid new : Option (List ℕ)} {text : List ℕ} → Progress e e' number b b' left left' old mid text → AppendsSome mid new text → Stops m p e e' 1 b b' left left' old new
+  pub stops_handing : {e e' : Engine S V} {number : ℕ} {b b' : List ℕ} {left left' old mid new : Option (List ℕ)} {text : List ℕ} → Progress e e' number b b' left left' old mid text → AppendsSome mid new text → Stops d m p e e' 1 b b' left left' old new
   stops_handing {e} {e'} {b} {b'} {left} {left'} {old} {mid} {new} {text} before some =
       let rs = before.done in record {
         breaks = record {
@@ -193,7 +193,7 @@ module _ {S V : Type 0} (m : S → Store) (p : V → Stamps) where
       }
 
   -- an error behind more records
-  pub stops_behind : {e e' e'' : Engine S V} {number : ℕ} {b b' b'' : List ℕ} {left left' left'' old new : Option (List ℕ)} {text : List ℕ} → Progress e e' number b b' left left' old new text → Breaks m p e' e'' number b' b'' left' left'' → Stops m p e e'' 1 b b'' left left'' old new
+  pub stops_behind : {e e' e'' : Engine S V} {number : ℕ} {b b' b'' : List ℕ} {left left' left'' old new : Option (List ℕ)} {text : List ℕ} → Progress e e' number b b' left left' old new text → Breaks d m p e' e'' number b' b'' left' left'' → Stops d m p e e'' 1 b b'' left left'' old new
   stops_behind {e} {e'} {e''} {number} {b} {b'} {b''} {left} {left'} {left''} {old} {new} {text} before stop =
       let rs = before.done in
       let done = before.answered in record {
@@ -204,9 +204,9 @@ module _ {S V : Type 0} (m : S → Store) (p : V → Stamps) where
           answers = answers_join e e' e'' 1 number rs stop.done b b' b'' before.count done.answers stop.answers;
         };
         lines = λ l f.
-            let a = answer_from 1 l b rs in
-            let more = (answer_from number a.ledger a.buffer stop.done).lines in
-            let all = (answers_of_both rs stop.done 1 number before.count l b).2 ∙ ap (λ ls. ls ++ more) (done.lines l f) ∙ append_assoc done.written text more in
+            let a = answer_from d 1 l b rs in
+            let more = (answer_from d number a.ledger a.buffer stop.done).lines in
+            let all = (answers_of_both d rs stop.done 1 number before.count l b).2 ∙ ap (λ ls. ls ++ more) (done.lines l f) ∙ append_assoc done.written text more in
             (done.written, done.appended, subst (λ ls. StartsWith ls done.written) (sym all) (take-append_seam done.written (text ++ more)));
       }
 
@@ -222,7 +222,7 @@ module _ {S V : Type 0} (m : S → Store) (p : V → Stamps) where
 
   -- the last record, or none
   pub last_progress : {e e' e'' : Engine S V} {number : ℕ} {b b' b'' : List ℕ} {left left' left'' old new : Option (List ℕ)} {text text' : List ℕ}
-      → Progress e e' number b b' left left' old new text → Advances m p e' e'' number b' b'' left' left'' text text' false → IsFinished e e'' b b'' left left'' old new text'
+      → Progress e e' number b b' left left' old new text → Advances d m p e' e'' number b' b'' left' left'' text text' false → IsFinished e e'' b b'' left left'' old new text'
   last_progress {e} {e'} {e''} {number} {b} {b'} {b''} {left} {left'} {left''} {old} {new} {text} {text'} before next =
       let rs = before.done in
       let r = next.bytes in
@@ -253,7 +253,7 @@ module _ {S V : Type 0} (m : S → Store) (p : V → Stamps) where
   -- the text was written, or begun
   pub finished_written : {e e' : Engine S V} {b b' : List ℕ} {left left' old mid : Option (List ℕ)} {text : List ℕ} {T E : Type 0} (new : Option (List ℕ)) (result : Result T E) → IsFinished e e' b b' left left' old mid text
       → MatchResult result (λ _. Appends mid new text) (λ _. AppendsSome mid new text)
-      → MatchResult result (λ _. GoesThrough m p e e' b b' left left' old new) (λ _. Stops m p e e' 1 b b' left left' old new)
+      → MatchResult result (λ _. GoesThrough d m p e e' b b' left left' old new) (λ _. Stops d m p e e' 1 b b' left left' old new)
   finished_written {e} {e'} {b} {b'} {left} {left'} {old} {mid} {text} new result finished wrote =
       let rs = records_of finished.bytes in
       let done = finished.answered in MatchResult-weaker result wrote
@@ -269,7 +269,7 @@ module _ {S V : Type 0} (m : S → Store) (p : V → Stamps) where
   -- One record
 
   -- nothing is left
-  pub advances_none : (e : Engine S V) (n : ℕ) (b : List ℕ) (left left' : Option (List ℕ)) (text : List ℕ) → Consumes left left' [] → IsAtEnd left' → Advances m p e e n b b left left' text text false
+  pub advances_none : (e : Engine S V) (n : ℕ) (b : List ℕ) (left left' : Option (List ℕ)) (text : List ℕ) → Consumes left left' [] → IsAtEnd left' → Advances d m p e e n b b left left' text text false
   advances_none e n b left left' text taken end = record {
     bytes = [];
     taken = taken;
@@ -281,7 +281,7 @@ module _ {S V : Type 0} (m : S → Store) (p : V → Stamps) where
 
   -- a record was answered
   pub advances : (e e' : Engine S V) (n : ℕ) (b b' : List ℕ) (left left' : Option (List ℕ)) (text text' : List ℕ) (count : ℕ) (xs : List ℕ) → length xs ≡ 20 → count ≤ length xs → (count ≡ 0 → ⊥) → Consumes left left' (take count xs)
-      → (count < length xs → IsAtEnd left') → Answers m p e e' n (take count xs ∷ []) b b' → GrowsByLines m p e n (take count xs ∷ []) b text text' → Advances m p e e' n b b' left left' text text' (count == 20)
+      → (count < length xs → IsAtEnd left') → Answers d m p e e' n (take count xs ∷ []) b b' → GrowsByLines d m p e n (take count xs ∷ []) b text text' → Advances d m p e e' n b b' left left' text text' (count == 20)
   advances e e' n b b' left left' text text' count xs room within some taken end answers lines =
       let size = length-take-le count xs within in
       let one : take count xs ∷ [] ≡ records_of (take count xs) = sym (records_of-part (take count xs) (omega (arith, size)) (omega (arith, size))) in
@@ -292,13 +292,13 @@ module _ {S V : Type 0} (m : S → Store) (p : V → Stamps) where
         short = λ h.
             let part : count ≡ 20 → ⊥ = λ whole. true≢false (sym (eq-eqb count 20 whole) ∙ h) in
             (omega (arith, size), end (omega arith));
-        answers = subst (λ rs. Answers m p e e' n rs b b') one answers;
-        lines = subst (λ rs. GrowsByLines m p e n rs b text text') one lines;
+        answers = subst (λ rs. Answers d m p e e' n rs b b') one answers;
+        lines = subst (λ rs. GrowsByLines d m p e n rs b text text') one lines;
       }
 
   -- an error in the line of a record
   pub breaks_in_line : (e e' : Engine S V) (n : ℕ) (b b' : List ℕ) (left left' : Option (List ℕ)) (count : ℕ) (xs : List ℕ) → length xs ≡ 20 → count ≤ length xs → (count ≡ 0 → ⊥) → Consumes left left' (take count xs)
-      → (count < length xs → IsAtEnd left') → Answers m p e e' n (take count xs ∷ []) b b' → Breaks m p e e' n b b' left left'
+      → (count < length xs → IsAtEnd left') → Answers d m p e e' n (take count xs ∷ []) b b' → Breaks d m p e e' n b b' left left'
   breaks_in_line e e' n b b' left left' count xs room within some taken end answers =
       let size = length-take-le count xs within in
       record {
@@ -309,28 +309,28 @@ module _ {S V : Type 0} (m : S → Store) (p : V → Stamps) where
       }
 
   -- an error before anything was answered
-  pub breaks_at_once : (e : Engine S V) (n : ℕ) (b : List ℕ) (left left' : Option (List ℕ)) → ConsumesSome left left' → Breaks m p e e n b b left left'
+  pub breaks_at_once : (e : Engine S V) (n : ℕ) (b : List ℕ) (left left' : Option (List ℕ)) → ConsumesSome left left' → Breaks d m p e e n b b left left'
   breaks_at_once e n b left left' taken = record { done = []; first = first_none left; taken = taken; answers = answers_no_record e n b }
 
   -- The whole run
 
   -- an error once all is answered
-  pub stops_at_end : {e e' : Engine S V} {b b' : List ℕ} {left left' old mid : Option (List ℕ)} (new : Option (List ℕ)) → GoesThrough m p e e' b b' left left' old mid → Keeps mid new → Stops m p e e' 1 b b' left left' old new
+  pub stops_at_end : {e e' : Engine S V} {b b' : List ℕ} {left left' old mid : Option (List ℕ)} (new : Option (List ℕ)) → GoesThrough d m p e e' b b' left left' old mid → Keeps mid new → Stops d m p e e' 1 b b' left left' old new
   stops_at_end {e} {e'} {b} {b'} {left} {left'} {old} {mid} new done kept = record {
     breaks = record { done = records_of done.bytes; first = done.first; taken = (done.bytes, done.taken); answers = done.file.answers };
-    lines = λ l f. ((answer_from 1 l b (records_of done.bytes)).lines, Appends-kept old mid new _ (done.file.lines l f) kept, take-length (answer_from 1 l b (records_of done.bytes)).lines);
+    lines = λ l f. ((answer_from d 1 l b (records_of done.bytes)).lines, Appends-kept old mid new _ (done.file.lines l f) kept, take-length (answer_from d 1 l b (records_of done.bytes)).lines);
   }
 
   -- what was written has left the buffer
-  file_kept : (e e' : Engine S V) (b b' : List ℕ) (old mid new : Option (List ℕ)) (bytes : List ℕ) → AnswersFile m p e e' b b' old mid bytes → Keeps mid new → AnswersFile m p e e' b b' old new bytes
+  file_kept : (e e' : Engine S V) (b b' : List ℕ) (old mid new : Option (List ℕ)) (bytes : List ℕ) → AnswersFile d m p e e' b b' old mid bytes → Keeps mid new → AnswersFile d m p e e' b b' old new bytes
   file_kept e e' b b' old mid new bytes file kept = record { answers = file.answers; lines = λ l f. Appends-kept old mid new _ (file.lines l f) kept }
 
-  pub known_file : (e e' : Engine S V) (b b' : List ℕ) (left left' old mid new : Option (List ℕ)) → GoesThrough m p e e' b b' left left' old mid → Keeps mid new
-      → IfSome left (λ bytes. length bytes < 2 ^ 64 → AnswersFile m p e e' b b' old new bytes)
+  pub known_file : (e e' : Engine S V) (b b' : List ℕ) (left left' old mid new : Option (List ℕ)) → GoesThrough d m p e e' b b' left left' old mid → Keeps mid new
+      → IfSome left (λ bytes. length bytes < 2 ^ 64 → AnswersFile d m p e e' b b' old new bytes)
   known_file e e' b b' None left' old mid new done kept = tt
   known_file e e' b b' (Some xs) None old mid new done kept = absurd done.taken
   known_file e e' b b' (Some xs) (Some ys) old mid new done kept = λ few.
       let long = ap length done.taken ∙ length-append done.bytes ys in
       let none : ys ≡ [] = done.all (omega (arith, long, few)) in
       let all : done.bytes ≡ xs = sym (done.taken ∙ ap (λ l. done.bytes ++ l) none ∙ append-nil done.bytes) in
-      subst (AnswersFile m p e e' b b' old new) all (file_kept e e' b b' old mid new done.bytes done.file kept)
+      subst (AnswersFile d m p e e' b b' old new) all (file_kept e e' b b' old mid new done.bytes done.file kept)

@@ -7,7 +7,6 @@ use Rattle.ledger.specs.declared.Done.{Done}
 use Rattle.ledger.specs.Ledger.{Ledger}
 use Rattle.ledger.specs.Calls.{step}
 use Rattle.ledger.specs.History.{call_made, Made}
-use Rattle.records.specs.Format.{decoded}
 use Rattle.answer_lines.specs.declared.LineFault.{LineFault}
 use Rattle.answer_lines.specs.declared.LineFault.TheVariants.{Malformed, Engine}
 use Rattle.callfile.specs.Lines.{line_text}
@@ -61,13 +60,13 @@ preceded n a rest = record {
   calls = rest.calls ++ a.calls;
 }
 
--- the records from number n on, each lent the buffer as the one before left it
-abbrev pub answer_from : ℕ → Ledger → List ℕ → List (List ℕ) → FileAnswer
-answer_from n l b [] = record { lines = []; buffer = b; ledger = l; calls = [] }
-answer_from n l b (r ∷ rs) =
-    let a = record_answer n l b (decoded r) in
-    preceded n a (answer_from (n + 1) a.ledger a.buffer rs)
+-- the records from number n on, each lent the buffer as the one before left it; d says the call that a record asks for
+abbrev pub answer_from : (List ℕ → Option Call) → ℕ → Ledger → List ℕ → List (List ℕ) → FileAnswer
+answer_from d n l b [] = record { lines = []; buffer = b; ledger = l; calls = [] }
+answer_from d n l b (r ∷ rs) =
+    let a = record_answer n l b (d r) in
+    preceded n a (answer_from d (n + 1) a.ledger a.buffer rs)
 
 -- the answer to a file, from a ledger and a buffer
-abbrev pub file_answer : Ledger → List ℕ → List ℕ → FileAnswer
-file_answer l b bytes = answer_from 1 l b (records_of bytes)
+abbrev pub file_answer : (List ℕ → Option Call) → Ledger → List ℕ → List ℕ → FileAnswer
+file_answer d l b bytes = answer_from d 1 l b (records_of bytes)

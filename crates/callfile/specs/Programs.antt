@@ -1,11 +1,13 @@
 -- What the programs that answer call files write.
 use Rattle.std.specs.Prelude.{ℕ, ◌^◌, ◌<◌, List, length, replicate, IfSome, Option}
 use Rattle.std.specs.Io.KnownBytes.{Appends, Consumes}
+use Rattle.ledger.specs.declared.Call.{Call}
 use Rattle.ledger.specs.Ledger.{Limits, new_ledger}
 use Rattle.versions.specs.Stores.{Store}
 use Rattle.validation.specs.Stamps.{Stamps}
 use Rattle.engine.specs.Fits.{limits_of}
 use Rattle.engine.specs.SetUp.{last_of}
+use Rattle.records.specs.Format.{decoded}
 use Rattle.callfile.specs.Files.{file_answer}
 use Rattle.callfile.specs.Runs.{AppendsSome}
 
@@ -15,7 +17,7 @@ program_limits = record { keys = 64; cells = 256; last = 4294967294; granule = �
 
 -- the lines that answer a file, from nothing; every read is lent 64 places, all 0 at first
 abbrev pub program_lines : List ℕ → List ℕ
-program_lines bytes = (file_answer (new_ledger program_limits) (replicate 64 0) bytes).lines
+program_lines bytes = (file_answer decoded (new_ledger program_limits) (replicate 64 0) bytes).lines
 
 -- What a program does to a reader and a writer: left is what the reader has left, old what the writer holds before, new afterwards.
 
@@ -31,6 +33,6 @@ AnswersTaken left left' old new = (bytes : List ℕ) × Consumes left left' byte
 abbrev pub AnswersSome : Option (List ℕ) → Option (List ℕ) → Option (List ℕ) → Type 0
 AnswersSome left old new = IfSome left (λ bytes. AppendsSome old new (program_lines bytes))
 
--- the lines that answer a file on an engine made of what means this, with this last tick; every read is lent so many places, all 0 at first
-abbrev pub lines_over : ℕ → Store → Stamps → ℕ → List ℕ → List ℕ
-lines_over last s v places bytes = (file_answer (new_ledger (limits_of (last_of last s v) s v)) (replicate places 0) bytes).lines
+-- the lines that answer a file, of which d says the calls, on an engine made of what means this, with this last tick; every read is lent so many places, all 0 at first
+abbrev pub lines_over : (List ℕ → Option Call) → ℕ → Store → Stamps → ℕ → List ℕ → List ℕ
+lines_over d last s v places bytes = (file_answer d (new_ledger (limits_of (last_of last s v) s v)) (replicate places 0) bytes).lines

@@ -1,5 +1,6 @@
 //! Call files: records of calls on the engine, and the line that answers each.
-//! `line` has the lines, `answer` leads from a record to its line, and `stream` answers a whole input.
+//! `line` has the lines, `answer` leads from a record to its line, and `stream` answers a whole input,
+//! in whichever format its records are.
 //! `sizes` has what the programs lend.
 #![tactic(auto)]
 

@@ -9,6 +9,7 @@ use crate::answer::answer;
 use crate::line::Line;
 use engine::engine::Engine;
 use records::codec::RECORD;
+use records::format::Format;
 use std::alloc::Global;
 use std::io;
 use std::io::{BufReader, BufWriter, ErrorKind, Read, Write};
@@ -20,7 +21,7 @@ const HELD: usize = 8192;
 
 /// Answers each record of an input on the engine, until the input ends. Every read is lent the buffer.
 /// A text of the lines that are held is allocated, and no more.
-pub fn run<S: VersionStore, V: Validator, R: Read, W: Write + Drop>(
+pub fn run<F: Format, S: VersionStore, V: Validator, R: Read, W: Write + Drop>(
     alloc: Global,
     engine: &mut Engine<S, V>,
     buffer: &mut [u64],
@@ -29,8 +30,8 @@ pub fn run<S: VersionStore, V: Validator, R: Read, W: Write + Drop>(
 ) -> io::Result<()>
     // Where it is known which bytes come, and the numbers of the records suffice: those are answered.
     ensures file { OnOk result (IfSome (reader_remaining R.remaining input.old)
-        (λ bytes. length bytes < 2 ^ 64 → AnswersFile S.meaning V.meaning engine.old engine.new
-        buffer.old buffer.new (writer_contents W.contents output.old)
+        (λ bytes. length bytes < 2 ^ 64 → AnswersFile F.decoded S.meaning V.meaning
+        engine.old engine.new buffer.old buffer.new (writer_contents W.contents output.old)
         (writer_contents W.contents output.new) bytes)) }
     ensures end { OnOk result (IfSome (reader_remaining R.remaining input.old)
         (λ bytes. length bytes < 2 ^ 64 → IsAtEnd (reader_remaining R.remaining input.new))) }
@@ -39,24 +40,24 @@ pub fn run<S: VersionStore, V: Validator, R: Read, W: Write + Drop>(
     ensures taken { OnOk result ((bytes : List ℕ)
         × Consumes (reader_remaining R.remaining input.old)
         (reader_remaining R.remaining input.new) bytes
-        × AnswersFile S.meaning V.meaning engine.old engine.new buffer.old buffer.new
+        × AnswersFile F.decoded S.meaning V.meaning engine.old engine.new buffer.old buffer.new
         (writer_contents W.contents output.old) (writer_contents W.contents output.new) bytes) }
 
     // All that is written has left the buffer of the output.
     ensures flushed { OnOk result (writer_buffer output.new ≡ []) }
 
     // An error leaves the first records answered, and a beginning of their lines written.
-    ensures err { OnErr result (Stops S.meaning V.meaning engine.old engine.new 1
+    ensures err { OnErr result (Stops F.decoded S.meaning V.meaning engine.old engine.new 1
         buffer.old buffer.new (reader_remaining R.remaining input.old)
         (reader_remaining R.remaining input.new) (writer_contents W.contents output.old)
         (writer_contents W.contents output.new)) }
 {
-    answer_all(alloc, engine, buffer, input, output)?;
+    answer_all::<F, _, _, _, _>(alloc, engine, buffer, input, output)?;
     output.flush()
 }
 
 /// Answers each record until the input ends. The last lines may still be in the buffer of the output.
-fn answer_all<S: VersionStore, V: Validator, R: Read, W: Write + Drop>(
+fn answer_all<F: Format, S: VersionStore, V: Validator, R: Read, W: Write + Drop>(
     alloc: Global,
     engine: &mut Engine<S, V>,
     buffer: &mut [u64],
@@ -64,11 +65,11 @@ fn answer_all<S: VersionStore, V: Validator, R: Read, W: Write + Drop>(
     output: &mut BufWriter<W>,
 ) -> io::Result<()>
     ensures { MatchResult result
-        (λ _. GoesThrough S.meaning V.meaning engine.old engine.new
+        (λ _. GoesThrough F.decoded S.meaning V.meaning engine.old engine.new
         buffer.old buffer.new (reader_remaining R.remaining input.old)
         (reader_remaining R.remaining input.new) (writer_contents W.contents output.old)
         (writer_contents W.contents output.new))
-        (λ _. Stops S.meaning V.meaning engine.old engine.new 1
+        (λ _. Stops F.decoded S.meaning V.meaning engine.old engine.new 1
         buffer.old buffer.new (reader_remaining R.remaining input.old)
         (reader_remaining R.remaining input.new) (writer_contents W.contents output.old)
         (writer_contents W.contents output.new)) }
@@ -76,7 +77,7 @@ fn answer_all<S: VersionStore, V: Validator, R: Read, W: Write + Drop>(
     let mut text = String::new(alloc);
     for number in 1..u64::MAX {
         hand_over(input, &mut text, output)?;
-        if !answer_next(number, engine, buffer, input, &mut text)? {
+        if !answer_next::<F, _, _, _>(number, engine, buffer, input, &mut text)? {
             return write_lines(&mut text, output);
         }
     }
@@ -111,7 +112,7 @@ fn hand_over<R: Read, W: Write + Drop>(
 
 /// Answers the next record, if there is one, with its line behind the text.
 /// Says whether the record is whole, so that another may follow.
-fn answer_next<S: VersionStore, V: Validator, R: Read>(
+fn answer_next<F: Format, S: VersionStore, V: Validator, R: Read>(
     number: u64,
     engine: &mut Engine<S, V>,
     buffer: &mut [u64],
@@ -119,35 +120,35 @@ fn answer_next<S: VersionStore, V: Validator, R: Read>(
     text: &mut String,
 ) -> io::Result<bool>
     ensures { MatchResult result
-        (Advances S.meaning V.meaning engine.old engine.new number buffer.old buffer.new
-        (R.remaining input.old) (R.remaining input.new)
+        (Advances F.decoded S.meaning V.meaning engine.old engine.new number
+        buffer.old buffer.new (R.remaining input.old) (R.remaining input.new)
         (string_bytes text.old) (string_bytes text.new))
-        (λ _. Breaks S.meaning V.meaning engine.old engine.new number buffer.old buffer.new
-        (R.remaining input.old) (R.remaining input.new)) }
+        (λ _. Breaks F.decoded S.meaning V.meaning engine.old engine.new number
+        buffer.old buffer.new (R.remaining input.old) (R.remaining input.new)) }
 {
     let mut bytes = [0; RECORD];
     let count = read_record(input, &mut bytes)?;
     if count == 0 {
         return Ok(false);
     }
-    answer_record(number, &bytes[..count], engine, buffer, text)?;
+    answer_record::<F, _, _>(number, &bytes[..count], engine, buffer, text)?;
     Ok(count == RECORD)
 }
 
 /// Answers one record, and puts its line behind the text.
-fn answer_record<S: VersionStore, V: Validator>(
+fn answer_record<F: Format, S: VersionStore, V: Validator>(
     number: u64,
     bytes: &[u8],
     engine: &mut Engine<S, V>,
     buffer: &mut [u64],
     text: &mut String,
 ) -> io::Result<()>
-    ensures answers { Answers S.meaning V.meaning engine.old engine.new number
+    ensures answers { Answers F.decoded S.meaning V.meaning engine.old engine.new number
         (bytes.now ∷ []) buffer.old buffer.new }
-    ensures line { OnOk result (GrowsByLines S.meaning V.meaning engine.old number
+    ensures line { OnOk result (GrowsByLines F.decoded S.meaning V.meaning engine.old number
         (bytes.now ∷ []) buffer.old (string_bytes text.old) (string_bytes text.new)) }
 {
-    let result = answer(number, bytes, engine, buffer);
+    let result = answer::<F, _, _>(number, bytes, engine, buffer);
     let line = Line {
         number,
         result,

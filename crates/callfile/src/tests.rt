@@ -1,7 +1,7 @@
 use crate::stream::run;
 use engine::engine::Engine;
 use ledger::{Call, Kind};
-use records::codec::{RECORD, encode};
+use records::codec::{CallFile, RECORD, encode};
 use std::alloc::Global;
 use std::cell::{Cell, RefCell};
 use std::io;
@@ -49,7 +49,7 @@ fn run_over<R: Read + Drop, W: Write + Drop>(alloc: Global, input: R, output: W)
     let mut engine = Engine::make(100, store, validator);
     let mut input = BufReader::new(alloc, input)?;
     let mut output = BufWriter::new(alloc, output)?;
-    run(alloc, &mut engine, &mut [0; 2], &mut input, &mut output)
+    run::<CallFile, _, _, _, _>(alloc, &mut engine, &mut [0; 2], &mut input, &mut output)
 }
 
 /// What came out of a run, and how many calls made it so.

@@ -8,6 +8,7 @@ ghost use Rattle.callfile.specs.Programs.{AnswersAll, AnswersTaken, AnswersSome}
 use callfile::sizes::{CELLS, KEYS, PLACES};
 use callfile::stream::run;
 use engine::engine::{Engine, LAST_TICK};
+use records::codec::CallFile;
 use std::alloc::Global;
 use std::io;
 use std::io::{BufReader, BufWriter, Read, Write};
@@ -39,7 +40,7 @@ fn answer_file<R: Read, W: Write + Drop>(
     let store = LogStore::make(KEYS, &mut cells);
     let validator = RecentList::make(KEYS, &mut entries);
     let mut engine = Engine::make(LAST_TICK, store, validator);
-    run(alloc, &mut engine, &mut buffer, input, output)
+    run::<CallFile, _, _, _, _>(alloc, &mut engine, &mut buffer, input, output)
 }
 
 fn main(rt: HostRuntime) -> io::Result<()> {

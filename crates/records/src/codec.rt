@@ -1,26 +1,32 @@
 ghost use Rattle.std.specs.Prelude.{◌≡◌, Some};
 ghost use Rattle.records.specs.Format.{decoded, call_of, encoded, fields_of, laid_out};
 
+use crate::format::Format;
 use ledger::{Call, Kind};
 
 /// The length of a record, in bytes.
 pub const RECORD: usize = 20;
 
-/// The call that a record asks for; none where the record is malformed.
-pub fn decode(bytes: &[u8]) -> Option<Call>
-    ensures { result ≡ decoded bytes.now }
-{
-    let [kind, 0, k0, k1, c0, c1, 0, 0, h0, h1, h2, h3, rest @ ..] = bytes else {
-        return None;
-    };
-    let fields = Fields {
-        kind: *kind,
-        key: u16::from_le_bytes([*k0, *k1]),
-        count: u16::from_le_bytes([*c0, *c1]),
-        handle: u32::from_le_bytes([*h0, *h1, *h2, *h3]),
-        value: u64::from_le_bytes(rest.try_into().ok()?),
-    };
-    fields.call()
+/// The format of call files.
+#[derive(Clone, Copy)]
+pub struct CallFile {}
+
+impl Format for CallFile {
+    ghost decoded = { decoded };
+
+    fn decode(bytes: &[u8]) -> Option<Call> {
+        let [kind, 0, k0, k1, c0, c1, 0, 0, h0, h1, h2, h3, rest @ ..] = bytes else {
+            return None;
+        };
+        let fields = Fields {
+            kind: *kind,
+            key: u16::from_le_bytes([*k0, *k1]),
+            count: u16::from_le_bytes([*c0, *c1]),
+            handle: u32::from_le_bytes([*h0, *h1, *h2, *h3]),
+            value: u64::from_le_bytes(rest.try_into().ok()?),
+        };
+        fields.call()
+    }
 }
 
 /// The record that asks for a call.

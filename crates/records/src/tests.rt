@@ -1,4 +1,5 @@
-use crate::codec::{RECORD, decode, encode};
+use crate::codec::{CallFile, RECORD, encode};
+use crate::format::Format;
 use ledger::Call;
 
 #[test]
@@ -28,9 +29,9 @@ fn lays_fields_out(rt: HostRuntime) {
 fn refuses_fields_that_are_not_used(rt: HostRuntime) {
     for place in 1..RECORD {
         let mut bytes = encode(Call::Reclaim);
-        assert!(rt; decode(&bytes).is_some());
+        assert!(rt; CallFile::decode(&bytes).is_some());
         bytes[place] = 1;
-        assert!(rt; decode(&bytes).is_none());
-        assert!(rt; decode(&bytes[..place]).is_none());
+        assert!(rt; CallFile::decode(&bytes).is_none());
+        assert!(rt; CallFile::decode(&bytes[..place]).is_none());
     }
 }

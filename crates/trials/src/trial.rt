@@ -13,6 +13,7 @@ use callfile::stream::run;
 use chain::cell::Cell;
 use chain::store::ChainStore;
 use engine::engine::Engine;
+use records::codec::CallFile;
 use std::alloc::Global;
 use std::io;
 use std::io::{BufReader, BufWriter};
@@ -183,7 +184,7 @@ impl Trial<'_> {
         let mut input = BufReader::new(self.heap, self.calls)?;
         let mut output = BufWriter::new(self.heap, Vec::new(self.heap))?;
         let mut engine = Engine::make(self.setting.last, store, validator);
-        run(
+        run::<CallFile, _, _, _, _>(
             self.heap,
             &mut engine,
             buffer.as_mut_slice(),

@@ -1,6 +1,6 @@
 use Rattle.std.proofs.Common.{◌∙◌, ◌≡◌, sym, List, ℕ, length, arith}
 use Rattle.records.proofs.Decodings.{value_bytes, twenty, decoded_fields, whole}
-use Rattle.records.proofs.codec.decode.Goals as goal
+use Rattle.records.proofs.codec.CallFileFormat.decode.Goals as goal
 
 pub returns : goal.returns
 returns c =
