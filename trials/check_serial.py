@@ -7,9 +7,10 @@
 From the calls and the lines alone it rebuilds the transactions, puts them into
 the serial order (a committed updater at its commit tick, a reader at its start),
 runs them one at a time on a table of zeros, and compares what every accepted
-read gives there with what its line has. It checks that who ended before another
-began stands before it, and that ticks are drawn in turn. Nothing of the outside
-implementation is asked for that, not even how a record is taken apart.
+read or total gives there with what its line has; only writes set a value of it.
+It checks that who ended before another began stands before it, and that ticks
+are drawn in turn. Nothing of the outside implementation is asked for that, not
+even how a record is taken apart.
 
 Last it asks the outside implementation for the lines without the reclaims and
 with a reclaim before every call: no other line may change.
@@ -17,6 +18,7 @@ with a reclaim before every call: no other line may change.
 
 import argparse
 import collections
+import itertools
 import os
 import struct
 import sys
@@ -26,6 +28,19 @@ from outside import Ledger, Settings, add_settings, settings_of
 
 LENGTH = 20
 RECLAIM = bytes([7]) + bytes(LENGTH - 1)
+
+# The results that an accepted call of each kind may have.
+ANSWERS = {
+    1: ["began"],
+    2: ["began"],
+    3: ["read"],
+    4: ["wrote"],
+    5: ["closed", "restart", "spent", "full", "committed"],
+    6: ["aborted"],
+    7: ["reclaimed"],
+}
+TOTAL_ANSWERS = {8: ["sum"], 9: ["smallest"], 10: ["nonzero"]}
+LOOKS = (3, *TOTAL_ANSWERS)
 
 
 class Unlawful(Exception):
@@ -44,7 +59,7 @@ class Transaction:
     began: int  # the number of its begin's record
     ended: int = None  # the number of its commit's or abort's record
     place: int = None  # where it stands in the serial order, if anywhere
-    steps: list = field(default_factory=list)  # accepted reads and writes
+    steps: list = field(default_factory=list)  # accepted reads, totals and writes
 
 
 def fields_of(record):
@@ -57,21 +72,42 @@ def cut(data):
     return [data[at : at + LENGTH] for at in range(0, len(data), LENGTH)]
 
 
+def numbers_of(number, result, words):
+    """The numbers behind a line's result; only a smallest may be none."""
+    if result == "smallest" and words == ["none"]:
+        return [None]
+    demand(all(word.isdecimal() for word in words), f"line {number}: {result} {words}")
+    return [int(word) for word in words]
+
+
+def seen(result, first, values):
+    """What a read or a total shows of the values of the keys from the first on, as the numbers of
+    its line."""
+    if result == "sum":
+        return [sum(values) % 2**64]
+    if result == "smallest":
+        return list(min(zip(values, itertools.count(first)), default=(None,)))
+    if result == "nonzero":
+        return [len(values) - values.count(0)]
+    return values
+
+
 class Retelling:
     """The transactions of a call file, as its calls and lines tell of them."""
 
-    def __init__(self, data, lines):
+    def __init__(self, data, lines, totals):
         records = cut(data)
         demand(len(lines) == len(records), f"{len(records)} records, {len(lines)} lines")
+        self.answers = ANSWERS | TOTAL_ANSWERS if totals else ANSWERS
         self.transactions = []
         self.active = {}
         self.clock = 0
         for number, (record, line) in enumerate(zip(records, lines), 1):
-            shown, result, *numbers = line.split(" ")
+            shown, result, *words = line.split(" ")
             demand(shown == str(number), f"line {number} is numbered {shown}")
             if result != "refused":
                 demand(len(record) == LENGTH, f"record {number} is short, but accepted")
-                self.accept(number, record, result, [int(word) for word in numbers])
+                self.accept(number, record, result, numbers_of(number, result, words))
 
     def draw(self, number, tick):
         self.clock += 1
@@ -79,16 +115,7 @@ class Retelling:
 
     def accept(self, number, record, result, numbers):
         kind, key, count, handle, value = fields_of(record)
-        answers = {
-            1: ["began"],
-            2: ["began"],
-            3: ["read"],
-            4: ["wrote"],
-            5: ["closed", "restart", "spent", "full", "committed"],
-            6: ["aborted"],
-            7: ["reclaimed"],
-        }
-        demand(result in answers.get(kind, []), f"line {number}: kind {kind} got {result}")
+        demand(result in self.answers.get(kind, []), f"line {number}: kind {kind} got {result}")
         if kind == 7:
             return
         if result == "began":
@@ -101,12 +128,15 @@ class Retelling:
             return
         demand(handle in self.active, f"line {number}: {handle} is not active")
         transaction = self.active[handle]
-        if result == "read":
-            demand(len(numbers) == count, f"line {number}: {count} keys, {len(numbers)} values")
-            transaction.steps.append((number, key, count, numbers))
+        if kind in LOOKS:
+            # Of zeros a line has as many numbers as of any values; of no keys it has these.
+            zeros = seen(result, key, [0] * count)
+            fits = len(numbers) == len(zeros) and (count > 0 or numbers == zeros)
+            demand(fits, f"line {number}: {result} {numbers} of {count} keys")
+            transaction.steps.append((number, result, key, count, numbers))
         elif result == "wrote":
             demand(transaction.updates, f"line {number}: a reader wrote")
-            transaction.steps.append((number, key, None, value))
+            transaction.steps.append((number, result, key, 1, value))
         else:
             self.end(number, transaction, result, numbers)
 
@@ -126,17 +156,17 @@ class Retelling:
 
 
 def check_serial(order):
-    """Runs the transactions singly; answers how many values were compared."""
+    """Runs the transactions singly; answers how many values and figures were compared."""
     table = collections.defaultdict(int)
     compared = 0
     for transaction in order:
-        for number, key, count, given in transaction.steps:
-            if count is None:
+        for number, result, key, count, given in transaction.steps:
+            if result == "wrote":
                 table[key] = given
                 continue
-            serial = [table[k] for k in range(key, key + count)]
+            serial = seen(result, key, [table[k] for k in range(key, key + count)])
             demand(serial == given, f"line {number} gives {given}, a serial run {serial}")
-            compared += count
+            compared += count if result == "read" else 1
     return compared
 
 
@@ -166,8 +196,9 @@ def check_reclaims(settings, data, lines):
 
 
 def check(settings, data, lines):
-    """Checks all laws; answers how many transactions and values were compared."""
-    order = Retelling(data, lines).serial_order()
+    """Checks all laws; answers how many transactions, and how many values and figures, were
+    compared."""
+    order = Retelling(data, lines, settings.totals).serial_order()
     compared = check_serial(order)
     check_time(order)
     check_reclaims(settings, data, lines)
@@ -182,13 +213,13 @@ def read_pair(calls, lines):
 
 
 def read_set(folder):
-    """Name, settings, bytes and lines of each file of a set."""
+    """Name, settings, bytes and lines of each file of a set; a set is read with totals."""
     with open(os.path.join(folder, "settings")) as file:
         for line in file:
             name, *numbers = line.split()
             stem = os.path.join(folder, name)
             data, lines = read_pair(stem + ".calls", stem + ".lines")
-            yield name, Settings(*map(int, numbers)), data, lines
+            yield name, Settings(*map(int, numbers), totals=True), data, lines
 
 
 def main():
@@ -209,7 +240,8 @@ def main():
     for name, settings, data, lines in trials:
         try:
             transactions, compared = check(settings, data, lines)
-            print(f"{name}: {transactions} transactions in order, {compared} values read alike")
+            order = f"{transactions} transactions in order"
+            print(f"{name}: {order}, {compared} values and figures alike")
         except Unlawful as fault:
             print(f"{name}: {fault}")
             unlawful += 1

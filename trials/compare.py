@@ -11,8 +11,8 @@ printed.
 
     trials/compare.py --trials crates/trials/out/trials      40 files over random settings
 
-makes a folder of files over random settings and lets the program `trials` compare
-them, over every pair of store and validator.
+makes a folder of files over random settings, with totals in them, and lets the
+program `trials` compare them, over every pair of store and validator.
 """
 
 import argparse
@@ -22,9 +22,10 @@ import select
 import subprocess
 import sys
 import tempfile
+from dataclasses import replace
 
 from check_serial import Unlawful, check
-from generate import STYLES, generate, random_settings, write_set
+from generate import STYLES, TOTAL_LINES, generate, print_coverage, random_settings, write_set
 from outside import Settings
 from records import split
 
@@ -108,15 +109,19 @@ def compare_settings(program, arguments):
     files = []
     for turn in range(arguments.files):
         seed = arguments.seed + turn
-        settings = random_settings(random.Random(f"settings {seed}"))
+        settings = replace(random_settings(random.Random(f"settings {seed}")), totals=True)
         files.append((f"seed-{seed}", settings, styles[turn % len(styles)], seed, arguments.calls))
     with tempfile.TemporaryDirectory() as folder:
-        write_set(folder, files)
+        counts = write_set(folder, files)
+        print_coverage(counts)
         ask = [os.path.abspath(program)]  # it reads the folder that it is run in
         done = subprocess.run(ask, cwd=folder, stdout=subprocess.PIPE, check=True)
     lines = done.stdout.decode().splitlines()
     differing = [line for line in lines if "differ" in line]
     print("\n".join(differing + lines[-1:]))
+    compared = sum(count.total() for count in counts.values())
+    totals = sum(count[kind] for count in counts.values() for kind in TOTAL_LINES)
+    print(f"{len(files)} files, {compared} calls compared, {totals} of the lines answer totals")
     return len(differing)
 
 

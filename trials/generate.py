@@ -3,6 +3,7 @@
 
     trials/generate.py 7 > FILE                      one file at the programs' set-up
     trials/generate.py 7 --style reports --keys 9 --cells 20 > FILE
+    trials/generate.py 7 --totals > FILE             one with totals
     trials/generate.py --set crates/trials/data      the committed set, and what it covers
 
 The generator watches the lines of the outside implementation, so that it knows
@@ -14,6 +15,7 @@ import collections
 import os
 import random
 import sys
+from dataclasses import replace
 
 from outside import LIST_LENGTH, MOST_ACTIVE, MOST_TICKS, Ledger, Settings
 from outside import add_settings, settings_of
@@ -25,10 +27,12 @@ from records import (
     LENGTH,
     READ,
     RECLAIM,
-    USED,
+    TOTALS,
     WRITE,
     Call,
+    decode,
     encode,
+    fields_used,
 )
 
 MOST_16, MOST_32, MOST_64 = 2**16 - 1, 2**32 - 1, 2**64 - 1
@@ -44,6 +48,7 @@ class Generator:
         self.readers = []  # live handles
         self.updaters = []
         self.ended = []
+        self.ranges = collections.defaultdict(list)  # read or totalled, by handle
 
     # Making calls
 
@@ -61,7 +66,18 @@ class Generator:
         return live[-1]
 
     def read(self, handle, first, count):
-        self.put(encode(Call(READ, first, count, handle)))
+        """A read of the range; with totals, now and then a total in its place."""
+        if self.settings.totals and self.below(3) == 0:
+            self.total(handle, first, count)
+        else:
+            self.look(READ, handle, first, count)
+
+    def total(self, handle, first, count):
+        self.look(self.dice.choice(TOTALS), handle, first, count)
+
+    def look(self, kind, handle, first, count):
+        self.put(encode(Call(kind, first, count, handle)))
+        self.ranges[handle].append((first, count))
 
     def write(self, handle, key):
         self.put(encode(Call(WRITE, key, 0, handle, self.value())))
@@ -141,12 +157,14 @@ class Generator:
         self.put(encode(Call(RECLAIM)))
 
     def malformed(self):
-        kind = self.dice.choice(list(USED))
+        used = fields_used(self.settings.totals)
+        kind = self.dice.choice(list(used))
         fields = {"key": MOST_16, "count": MOST_16, "handle": MOST_32, "value": MOST_64}
-        unused = [field for field in fields if field not in USED[kind]]
+        unused = [field for field in fields if field not in used[kind]]
         wrong = self.below(5)
         if wrong == 0:
-            self.put(encode(Call(self.dice.choice((0, 8, 9, 128, 255)))))
+            unknown = (0, 11, 128, 255) if self.settings.totals else (0, 8, 9, 128, 255)
+            self.put(encode(Call(self.dice.choice(unknown))))
         elif wrong == 1:
             self.put(encode(Call(kind), gap=1 + self.below(255)))
         elif wrong == 2:
@@ -228,6 +246,35 @@ class Generator:
         for handle in (self.readers + self.updaters)[1:]:
             self.end(self.dice.choice((COMMIT, COMMIT, ABORT)), handle)
 
+    def total_some(self):
+        self.total(self.handle(self.readers + self.updaters), *self.range())
+
+    def total_again(self):
+        """A total of a range that its transaction looked at before, if there is one."""
+        handle = self.handle(self.readers + self.updaters)
+        self.total(handle, *self.dice.choice(self.ranges.get(handle) or [self.range()]))
+
+    def total_nothing(self):
+        """A total of no keys: in the table, at its edge or past it."""
+        keys = self.settings.keys
+        first = self.dice.choice((0, self.below(keys), keys, keys, keys + 1, MOST_16))
+        self.total(self.handle(self.readers + self.updaters), first, 0)
+
+    def total_alike(self):
+        """Neighbouring keys with values that are alike, 0 or near 2^64, and their totals."""
+        handle = self.begin(BEGIN_UPDATER)
+        if handle is None:
+            return
+        first = self.below(self.settings.keys)
+        count = min(1 + self.below(5), self.settings.keys - first)
+        least = self.dice.choice((0, 1, MOST_64 - 1))
+        for key in range(first, first + count):
+            value = self.dice.choice((least, least, least + 1, MOST_64))
+            self.put(encode(Call(WRITE, key, 0, handle, value)))
+        for kind in TOTALS:
+            self.look(kind, handle, first, count)
+        self.end(COMMIT, handle)
+
     def cut(self):
         """A short last record."""
         record = encode(Call(self.dice.choice((BEGIN_READER, READ, RECLAIM))))
@@ -243,6 +290,14 @@ USUAL = {
     "abort": 3,
     "reclaim": 4,
     "malformed": 2,
+}
+
+# What every style has beside, where there are totals.
+WITH_TOTALS = {
+    "total_some": 12,
+    "total_again": 8,
+    "total_nothing": 3,
+    "total_alike": 3,
 }
 
 STYLES = {
@@ -278,6 +333,8 @@ def play(seed, settings, style, calls):
     """A generator that has made its calls."""
     generator = Generator(seed, settings)
     weights = USUAL | STYLES[style]
+    if settings.totals:
+        weights |= WITH_TOTALS
     while len(generator.records) < calls:
         (move,) = generator.dice.choices(list(weights), list(weights.values()))
         getattr(generator, move)()
@@ -313,7 +370,8 @@ def random_settings(dice):
     return Settings(keys, cells, min(max(grain, 1), keys), last_tick, places)
 
 
-# The committed set: a name, settings, style, seed and how many calls.
+# The committed set: a name, settings, style, seed and how many calls. Only a file whose settings
+# have totals is made with them, but all are answered with them.
 COMMITTED = [
     ("usual", Settings(), "all", 1, 260),
     ("afternoon", Settings(), "reports", 2, 260),
@@ -335,21 +393,34 @@ COMMITTED = [
     ("one-granule", Settings(24, 30, 24, 70, 24), "all", 16, 260),
     ("coarse-reports", Settings(33, 12, 16, MOST_TICKS, 33), "reports", 17, 260),
     ("coarse-lists", Settings(100, 256, 7, MOST_TICKS, 20), "lists", 18, 300),
+    ("totals", Settings(8, 12, 1, MOST_TICKS, 4, totals=True), "all", 30, 180),
+    ("totals-reports", Settings(12, 16, 1, MOST_TICKS, 12, totals=True), "reports", 39, 180),
+    ("totals-lists", Settings(40, 50, 1, MOST_TICKS, 40, totals=True), "lists", 27, 180),
+    ("totals-coarse", Settings(30, 40, 4, MOST_TICKS, 30, totals=True), "meetings", 26, 180),
+    ("totals-broken", Settings(9, 16, 1, 90, 4, totals=True), "broken", 35, 120),
 ]
 
+TOTAL_LINES = (
+    ["sum", "smallest", "smallest none", "nonzero"]
+    + [f"total refused 3 {number}" for number in (5, 9, 13)]
+)
 LINES = (
     "began read wrote closed spent full committed aborted".split()
     + ["restart by the key", "restart by one beside", "reclaimed none", "reclaimed some"]
     + ["refused 4 7"]
     + [f"refused 3 {number}" for number in (5, 6, 9, 10, 11, 12, 13, 14)]
+    + TOTAL_LINES
 )
 
 
-def kind_of(line, ledger):
-    """What the coverage table counts a line under."""
+def kind_of(call, line, ledger):
+    """What the coverage table counts the line of a call under; a malformed record has no call."""
     words = line.split()[1:]
     if words[0] == "refused":
-        return " ".join(words[:3])
+        refusal = " ".join(words[:3])
+        return f"total {refusal}" if call is not None and call.kind in TOTALS else refusal
+    if words == ["smallest", "none"]:
+        return "smallest none"
     if words[0] == "reclaimed":
         return "reclaimed none" if words[1] == "0" else "reclaimed some"
     if words[0] == "restart":
@@ -376,21 +447,32 @@ def print_coverage(counts):
     return not unknown and not missing
 
 
+def answered(settings, records):
+    """The lines that the program trials must print (it takes totals in every file), and how many
+    of each kind."""
+    ledger = Ledger(replace(settings, totals=True))
+    lines = [ledger.answer(number, record) for number, record in enumerate(records, 1)]
+    calls = [decode(record, totals=True) for record in records]
+    kinds = (kind_of(call, line, ledger) for call, line in zip(calls, lines))
+    return lines, collections.Counter(kinds)
+
+
 def write_set(folder, files):
-    """Write call files with their lines and a list of their settings; show what they cover."""
+    """Write call files with their lines and a list of their settings; answers how many lines of
+    each kind each file has."""
     os.makedirs(folder, exist_ok=True)
     counts = {}
     with open(os.path.join(folder, "settings"), "w") as listing:
         for name, settings, style, seed, calls in files:
             made = play(seed, settings, style, calls)
+            lines, counts[name] = answered(settings, made.records)
             with open(os.path.join(folder, name + ".calls"), "wb") as file:
                 file.write(b"".join(made.records))
             with open(os.path.join(folder, name + ".lines"), "w") as file:
-                file.writelines(line + "\n" for line in made.lines)
+                file.writelines(line + "\n" for line in lines)
             numbers = (settings.keys, settings.cells, settings.grain, settings.last_tick)
             print(name, *numbers, settings.places, file=listing)
-            counts[name] = collections.Counter(kind_of(line, made.ledger) for line in made.lines)
-    return print_coverage(counts)
+    return counts
 
 
 def main():
@@ -402,7 +484,8 @@ def main():
     add_settings(parser)
     arguments = parser.parse_args()
     if arguments.set is not None:
-        sys.exit(0 if write_set(arguments.set, COMMITTED) else 1)
+        counts = write_set(arguments.set, COMMITTED)
+        sys.exit(0 if print_coverage(counts) else 1)
     if arguments.seed is None:
         parser.error("a seed or --set")
     data, _ = generate(arguments.seed, settings_of(arguments), arguments.style, arguments.calls)

@@ -3,8 +3,10 @@
 
     trials/outside.py FILE
     trials/outside.py --keys 8 --cells 4 < FILE
+    trials/outside.py FILE --totals
 
-Prints the line of each record of the call file, as docs/CALL_FILE.md has them.
+Prints the line of each record of the call file, as docs/CALL_FILE.md has them, and with --totals
+that of a total too, as docs/TRIALS.md has it.
 
 It keeps every version ever committed and judges each call from these: there is no store and no
 validator in it. Nor is there a trim, since a stamp that is trimmed can clash with no one: no
@@ -34,13 +36,15 @@ MOST_TICKS = 4294967294
 
 @dataclass(frozen=True)
 class Settings:
-    """What store, validator and engine are set up with; a set-up may be refused."""
+    """What store, validator and engine are set up with, which may be refused, and whether the file's
+    format has totals."""
 
     keys: int = 64
     cells: int = 256
     grain: int = 1  # keys to a granule
     last_tick: int = MOST_TICKS
     places: int = 64  # length of the buffer lent to every read
+    totals: bool = False  # whether the kinds of totals are read, or are malformed as others are
 
 
 @dataclass(frozen=True)
@@ -126,8 +130,23 @@ class Transaction:
     write_list: dict[int, int] = field(default_factory=dict)  # a key written again keeps its place
 
     def would_join(self, first: int, count: int) -> bool:
-        """Whether a read of this range makes the read list longer."""
+        """Whether a read or a total of this range makes the read list longer."""
         return self.is_updater and count > 0 and (first, count) not in self.read_list
+
+
+def figure(summary: int, first: int, values: list[int]) -> str:
+    """The figure of the values of the keys from the first on, as a total's line has it."""
+    match summary:
+        case records.TOTAL_SUM:
+            return f"sum {sum(values) % 2**64}"
+        case records.TOTAL_SMALLEST if not values:
+            return "smallest none"
+        case records.TOTAL_SMALLEST:
+            smallest = min(values)
+            return f"smallest {smallest} {first + values.index(smallest)}"
+        case records.TOTAL_NONZERO:
+            return f"nonzero {sum(value != 0 for value in values)}"
+    raise ValueError(f"a summary of kind {summary}")
 
 
 class Ledger:
@@ -136,6 +155,7 @@ class Ledger:
     def __init__(self, settings: Settings):
         self.limits = limits_of(settings)
         self.places = settings.places
+        self.totals = settings.totals
         self.clock = 0
         self.active: dict[int, Transaction] = {}  # by start, which is the handle
         self.versions: list[Version] = []  # every one ever committed, stamps rising
@@ -145,7 +165,7 @@ class Ledger:
     def answer(self, number: int, record: bytes) -> str:
         """The line of a record."""
         try:
-            result = self.result(number, records.decode(record))
+            result = self.result(number, records.decode(record, self.totals))
         except Refused as refusal:
             result = str(refusal)
         return f"{number} {result}"
@@ -171,9 +191,11 @@ class Ledger:
                 return "aborted"
             case records.RECLAIM:
                 return f"reclaimed {self.reclaim()}"
+            case summary if summary in records.TOTALS:
+                return self.total(call.handle, call.key, call.count, summary)
         raise ValueError(f"a call of kind {call.kind}")
 
-    # The six calls. Each makes its checks in the order of the rules, and then its changes.
+    # The seven calls. Each makes its checks in the order of the rules, and then its changes.
 
     def begin(self, is_updater: bool) -> int:
         """Answers the handle."""
@@ -188,15 +210,16 @@ class Ledger:
     def read(self, handle: int, first: int, count: int) -> list[int]:
         """Answers the values of the range, by rising key."""
         transaction = self.transaction(handle)
-        if first + count > self.limits.keys:
-            raise Refused(Fault.KEY_OUTSIDE, first)
+        self.check_range(first, count)
         if count > self.places:
             raise Refused(Fault.SHORT_BUFFER, self.places)
-        if transaction.would_join(first, count):
-            if len(transaction.read_list) == LIST_LENGTH:
-                raise Refused(Fault.READ_LIST_FULL, handle)
-            transaction.read_list.append((first, count))
-        return [self.value_for(transaction, key) for key in range(first, first + count)]
+        return self.look(transaction, first, count)
+
+    def total(self, handle: int, first: int, count: int, summary: int) -> str:
+        """Answers the figure of the range that the summary says."""
+        transaction = self.transaction(handle)
+        self.check_range(first, count)
+        return figure(summary, first, self.look(transaction, first, count))
 
     def write(self, handle: int, key: int, value: int) -> None:
         transaction = self.transaction(handle)
@@ -242,6 +265,21 @@ class Ledger:
         if handle not in self.active:
             raise Refused(Fault.NO_TRANSACTION, handle)
         return self.active[handle]
+
+    # Ranges
+
+    def check_range(self, first: int, count: int) -> None:
+        if first + count > self.limits.keys:
+            raise Refused(Fault.KEY_OUTSIDE, first)
+
+    def look(self, transaction: Transaction, first: int, count: int) -> list[int]:
+        """What the transaction reads under the keys of the range, for a read or for a total; the
+        last check of either is that the range may join the read list."""
+        if transaction.would_join(first, count):
+            if len(transaction.read_list) == LIST_LENGTH:
+                raise Refused(Fault.READ_LIST_FULL, transaction.start)
+            transaction.read_list.append((first, count))
+        return [self.value_for(transaction, key) for key in range(first, first + count)]
 
     # Versions
 
@@ -340,7 +378,7 @@ def run(settings: Settings, data: bytes) -> list[str]:
 
 
 def add_settings(parser: argparse.ArgumentParser) -> None:
-    """Adds the options of a set-up to a parser."""
+    """Adds the options of a set-up to a parser, and the one for totals."""
     usual = Settings()
     parser.add_argument("--keys", type=int, default=usual.keys, help="number of keys")
     parser.add_argument("--cells", type=int, default=usual.cells, help="number of cells")
@@ -349,6 +387,7 @@ def add_settings(parser: argparse.ArgumentParser) -> None:
                         help="the last tick that can be drawn")
     parser.add_argument("--places", type=int, default=usual.places,
                         help="length of the buffer lent to every read")
+    parser.add_argument("--totals", action="store_true", help="with the kinds of totals, 8 to 10")
 
 
 def settings_of(arguments: argparse.Namespace) -> Settings:
@@ -359,6 +398,7 @@ def settings_of(arguments: argparse.Namespace) -> Settings:
         grain=arguments.grain,
         last_tick=arguments.last_tick,
         places=arguments.places,
+        totals=arguments.totals,
     )
 
 

@@ -1,9 +1,11 @@
-"""The records of a call file, as docs/CALL_FILE.md has them: 20 bytes to a call.
+"""The records of a call file, as docs/CALL_FILE.md has them: 20 bytes to a call. Above them stand
+the three kinds of totals that the files of the trials have, as docs/TRIALS.md has them.
 
 A module for other scripts, such as trials/outside.py FILE:
 
     encode(Call(WRITE, key=5, handle=1, value=54))    the bytes of a record
     decode(record)                                    its call, or None if it is malformed
+    decode(record, totals=True)                       the same, where totals are kinds too
     split(data)                                       the records of a whole file
 """
 
@@ -20,6 +22,13 @@ COMMIT = 5
 ABORT = 6
 RECLAIM = 7
 
+# The kinds of the trials: one for each summary.
+TOTAL_SUM = 8
+TOTAL_SMALLEST = 9
+TOTAL_NONZERO = 10
+
+TOTALS = (TOTAL_SUM, TOTAL_SMALLEST, TOTAL_NONZERO)
+
 FIELDS = ("key", "count", "handle", "value")
 
 # The fields that each kind uses. The others are zero, or the record is malformed.
@@ -32,6 +41,7 @@ USED = {
     ABORT: ("handle",),
     RECLAIM: (),
 }
+USED_WITH_TOTALS = USED | dict.fromkeys(TOTALS, USED[READ])
 
 # Kind, gap, key, count, pad, handle, value: little-endian, and nothing between them.
 LAYOUT = struct.Struct("<BBHHHIQ")
@@ -54,18 +64,23 @@ def encode(call: Call, gap: int = 0, pad: int = 0) -> bytes:
     return LAYOUT.pack(call.kind, gap, call.key, call.count, pad, call.handle, call.value)
 
 
-def decode(record: bytes) -> Call | None:
+def decode(record: bytes, totals: bool = False) -> Call | None:
     """The call of a record, or None if the record is malformed."""
     if len(record) != LENGTH:
         return None
     kind, gap, key, count, pad, handle, value = LAYOUT.unpack(record)
     call = Call(kind, key, count, handle, value)
-    return call if gap == pad == 0 and is_proper(call) else None
+    return call if gap == pad == 0 and is_proper(call, totals) else None
 
 
-def is_proper(call: Call) -> bool:
+def fields_used(totals: bool) -> dict[int, tuple[str, ...]]:
+    """The kinds that there are, with totals or of the format alone, and the fields of each."""
+    return USED_WITH_TOTALS if totals else USED
+
+
+def is_proper(call: Call, totals: bool) -> bool:
     """Whether the call is of a kind that there is, with zero in every field not used."""
-    used = USED.get(call.kind)
+    used = fields_used(totals).get(call.kind)
     return used is not None and all(
         name in used or getattr(call, name) == 0 for name in FIELDS
     )

@@ -1,5 +1,5 @@
 -- A worked example, as bytes: fifteen records, and the lines that the programs print for them.
-use Rattle.std.specs.Prelude.{◌≡◌, ℕ, List, [], ◌∷◌, ◌++◌, codes, map}
+use Rattle.std.specs.Prelude.{◌≡◌, ℕ, List, [], ◌∷◌, ◌++◌, codes, filter_map}
 use Rattle.std.specs.List.{concat}
 use Rattle.ledger.specs.declared.Kind.TheVariants.{Reader, Updater}
 use Rattle.ledger.specs.declared.Call.{Call}
@@ -68,5 +68,5 @@ example_lines =
 
 -- The bytes are those of the calls, and the programs answer them with the lines.
 pub record Example : Type 0 where
-  pub bytes : example_bytes ≡ concat (map encoded example_calls)
+  pub bytes : example_bytes ≡ concat (filter_map encoded example_calls)
   pub lines : program_lines example_bytes ≡ example_lines

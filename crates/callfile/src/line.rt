@@ -1,8 +1,8 @@
 ghost use Rattle.std.specs.Prelude.{Some};
-ghost use Rattle.callfile.specs.Lines.{line_text};
+ghost use Rattle.callfile.specs.Lines.{figure_text, line_text};
 
 use answer_lines::{LineFault, Spaced};
-use ledger::{Done, Verdict};
+use ledger::{Done, Figure, KeyedValue, Verdict};
 use refusals::Refusal;
 use std::fmt;
 
@@ -28,6 +28,7 @@ impl fmt::Display for Line<'_> {
                 };
                 write!(f, "{number} read{values}")
             }
+            Ok(Done::Total(figure)) => write!(f, "{number} {}", Told(figure)),
             Ok(Done::Wrote) => write!(f, "{number} wrote"),
             Ok(Done::Ended(Verdict::Closed)) => write!(f, "{number} closed"),
             Ok(Done::Ended(Verdict::Restart { key, stamp })) => {
@@ -43,6 +44,25 @@ impl fmt::Display for Line<'_> {
             Ok(Done::Aborted) => write!(f, "{number} aborted"),
             Ok(Done::Reclaimed { count }) => write!(f, "{number} reclaimed {count}"),
             Err(fault) => write!(f, "{number} refused {}", fault.report()),
+        }
+    }
+}
+
+/// A figure, as a line tells it.
+#[derive(Clone, Copy)]
+struct Told(Figure);
+
+impl fmt::Display for Told {
+    ghost output = { λ t. Some (figure_text t.0) };
+
+    fn fmt<W: fmt::Write>(&self, f: &mut fmt::Formatter<W>) -> fmt::Result {
+        match self.0 {
+            Figure::Sum { value } => write!(f, "sum {value}"),
+            Figure::Smallest { least: None } => write!(f, "smallest none"),
+            Figure::Smallest {
+                least: Some(KeyedValue { key, value }),
+            } => write!(f, "smallest {value} {key}"),
+            Figure::NonZero { count } => write!(f, "nonzero {count}"),
         }
     }
 }

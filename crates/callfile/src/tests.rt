@@ -35,7 +35,7 @@ fn records(alloc: Global) -> io::Result<Vec<u8>> {
         },
         Call::Abort { handle: 3 },
     ] {
-        records.extend_from_slice(&encode(call))?;
+        records.extend_from_slice(&encode(call).unwrap())?;
     }
     let _ = records.pop();
     Ok(records)

@@ -43,6 +43,8 @@ fn answer_file<R: Read, W: Write + Drop>(
     run::<CallFile, _, _, _, _>(alloc, &mut engine, &mut buffer, input, output)
 }
 
+// Out of line: the log's inner loop then comes to lie where it runs a sixth faster.
+#[inline(never)]
 fn main(rt: HostRuntime) -> io::Result<()> {
     let mut input = BufReader::new(rt.alloc(), rt.stdin())?;
     let mut output = BufWriter::new(rt.alloc(), rt.stdout())?;

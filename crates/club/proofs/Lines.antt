@@ -46,5 +46,5 @@ handle_below ds = number-keep ds 4294967295 18446744073709551615 (omega arith)
 other_same : (xs ys : List ℕ) → (xs ≡ ys → ⊥) → bytes_eq xs ys ≡ false
 other_same xs ys other = false_from_ne_true _ (λ e. other ((bytes_eq-Decides xs ys).0 e))
 
-pub no_verb : (w : List ℕ) → (w ≡ codes "card" → ⊥) → (w ≡ codes "correct" → ⊥) → (w ≡ codes "recalculate" → ⊥) → (w ≡ codes "finish" → ⊥) → (w ≡ codes "list" → ⊥) → (w ≡ codes "report" → ⊥) → (w ≡ codes "show" → ⊥) → (w ≡ codes "close" → ⊥) → (w ≡ codes "clean" → ⊥) → None ≡ verb w
-no_verb w n0 n1 n2 n3 n4 n5 n6 n7 n8 = rw (other_same w (codes "card") n0, other_same w (codes "correct") n1, other_same w (codes "recalculate") n2, other_same w (codes "finish") n3, other_same w (codes "list") n4, other_same w (codes "report") n5, other_same w (codes "show") n6, other_same w (codes "close") n7, other_same w (codes "clean") n8) refl
+pub no_verb : (w : List ℕ) → (w ≡ codes "card" → ⊥) → (w ≡ codes "correct" → ⊥) → (w ≡ codes "recalculate" → ⊥) → (w ≡ codes "finish" → ⊥) → (w ≡ codes "list" → ⊥) → (w ≡ codes "figures" → ⊥) → (w ≡ codes "report" → ⊥) → (w ≡ codes "show" → ⊥) → (w ≡ codes "show-figures" → ⊥) → (w ≡ codes "close" → ⊥) → (w ≡ codes "clean" → ⊥) → None ≡ verb w
+no_verb w n0 n1 n2 n3 n4 n5 n6 n7 n8 n9 n10 = rw (other_same w (codes "card") n0, other_same w (codes "correct") n1, other_same w (codes "recalculate") n2, other_same w (codes "finish") n3, other_same w (codes "list") n4, other_same w (codes "figures") n5, other_same w (codes "report") n6, other_same w (codes "show") n7, other_same w (codes "show-figures") n8, other_same w (codes "close") n9, other_same w (codes "clean") n10) refl

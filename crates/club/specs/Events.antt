@@ -13,14 +13,14 @@ use Rattle.answer_lines.specs.declared.LineFault.{LineFault}
 use Rattle.answer_lines.specs.declared.LineFault.TheVariants.{Malformed, Engine as InEngine}
 use Rattle.club.specs.declared.desk.Desk.{Desk}
 use Rattle.club.specs.declared.event.Event.{Event}
-use Rattle.club.specs.declared.event.Event.TheVariants.{Card, Correction, Recalculation as ToRecalculate, Finish, List as ToList, Report, Show, Close, CleanUp}
+use Rattle.club.specs.declared.event.Event.TheVariants.{Card, Correction, Recalculation as ToRecalculate, Finish, List as ToList, Figures as ToFigures, Report, Show, ShowFigures, Close, CleanUp}
 use Rattle.club.specs.declared.said.Recalculation.{Recalculation}
 use Rattle.club.specs.declared.said.Said.{Said}
 use Rattle.club.specs.declared.said.Said.TheVariants.{Card as SaidCard, Recalculation as SaidOpen, AlreadyOpen, NoneOpen, Ended as SaidEnded, Restarted, Report as SaidReport, Removed}
-use Rattle.club.specs.Moments.{ShowsNow, ShowsOpening}
+use Rattle.club.specs.Moments.{club_in, figures_at, ShowsNow, ShowsOpening}
 use Rattle.procedures.specs.Procedures.{Procedure, pure, ◌>>=◌, begin, commit, reclaim, and_then}
 use Rattle.procedures.specs.Updates.{commit_with_write}
-use Rattle.club.specs.Transactions.{posted, corrected, worked_out, redone, listed, report_shown}
+use Rattle.club.specs.Transactions.{posted, corrected, worked_out, redone, listed, report_shown, figures_listed, figures_shown}
 
 -- the engine of a desk, and the recalculation that is open there
 abbrev pub engine_of : {S V : Type 0} → Desk S V → Engine S V
@@ -62,8 +62,10 @@ acted (Correction k x) w = do r ← corrected k x; pure (r, w)
 acted (ToRecalculate k n x) w = recalculated k n x w
 acted Finish w = do r ← work_finished w; pure (r, None)
 acted ToList w = do r ← listed; pure (r, w)
+acted (ToFigures k n) w = do r ← figures_listed k n; pure (r, w)
 acted Report w = do h ← begin Reader; pure (result_map SaidReport h, w)
 acted (Show h) w = do r ← report_shown h; pure (r, w)
+acted (ShowFigures h k n) w = do r ← figures_shown h k n; pure (r, w)
 acted (Close h) w = do end ← commit h; pure (result_map SaidEnded end, w)
 acted CleanUp w = do n ← reclaim; pure (Ok (Removed n), w)
 
@@ -84,8 +86,10 @@ pending_after event w s = w
 abbrev pub new_desk : {S V : Type 0} → Engine S V → Desk S V
 new_desk e = record { engine = e; pending = None }
 
--- what is shown: a list the club as it is now, a report the club as it was when the report was opened
+-- what is shown: a list and figures the club as it is now, a report the club as it was when the report was opened
 abbrev pub Shows : {S V F : Type 0} → (S → Store) → (V → Stamps) → Engine S V → Event → Result Said F → Type 0
-Shows m p e ToList r = IfOk r (ShowsNow m p e)
-Shows m p e (Show h) r = IfOk r (ShowsOpening m p e h)
+Shows m p e ToList r = IfOk r (ShowsNow m p e club_in)
+Shows m p e (ToFigures k n) r = IfOk r (ShowsNow m p e (figures_at k n))
+Shows m p e (Show h) r = IfOk r (ShowsOpening m p e h club_in)
+Shows m p e (ShowFigures h k n) r = IfOk r (ShowsOpening m p e h (figures_at k n))
 Shows m p e event r = ⊤

@@ -7,8 +7,8 @@ use Rattle.std.specs.List.{before_first, after_first}
 use Rattle.std.specs.Str.{bytes_eq}
 use Rattle.club.specs.declared.event.Event.{Event}
 use Rattle.club.specs.declared.line.Verb.{Verb}
-use Rattle.club.specs.declared.line.Verb.TheVariants.{Card as ToPost, Correct as ToCorrect, Recalculate as ToRecalculate, Finish as ToFinish, List as ToList, Report as ToReport, Show as ToShow, Close as ToClose, CleanUp as ToClean}
-use Rattle.club.specs.declared.event.Event.TheVariants.{Card, Correction, Recalculation, Finish, List as ListNow, Report, Show, Close, CleanUp}
+use Rattle.club.specs.declared.line.Verb.TheVariants.{Card as ToPost, Correct as ToCorrect, Recalculate as ToRecalculate, Finish as ToFinish, List as ToList, Figures as ToFigures, Report as ToReport, Show as ToShow, ShowFigures as ToShowFigures, Close as ToClose, CleanUp as ToClean}
+use Rattle.club.specs.declared.event.Event.TheVariants.{Card, Correction, Recalculation, Finish, List as ListNow, Figures, Report, Show, ShowFigures, Close, CleanUp}
 
 -- a line's text: without its line feed, and without a carriage return before that
 abbrev pub text_of : List ℕ → List ℕ
@@ -46,6 +46,14 @@ handle digits = number digits 4294967295
 abbrev pub card : List ℕ → Option (ℕ × ℕ)
 card args = option_zip (short (word args)) (number (behind args) 18446744073709551615)
 
+-- the first key of a run of rounds, and their count
+abbrev pub round_range : List ℕ → Option (ℕ × ℕ)
+round_range args = option_zip (short (word args)) (short (behind args))
+
+-- the handle of a report, and a run of rounds
+abbrev pub report_range : List ℕ → Option (ℕ × ℕ × ℕ)
+report_range args = option_map (λ r. (r.0, r.1.0, r.1.1)) (option_zip (handle (word args)) (round_range (behind args)))
+
 -- the first key of a run of rounds, their count, and the key of the index
 abbrev pub rounds : List ℕ → Option (ℕ × ℕ × ℕ)
 rounds args =
@@ -59,8 +67,10 @@ verb w =
     else if bytes_eq w (codes "recalculate") then Some ToRecalculate
     else if bytes_eq w (codes "finish") then Some ToFinish
     else if bytes_eq w (codes "list") then Some ToList
+    else if bytes_eq w (codes "figures") then Some ToFigures
     else if bytes_eq w (codes "report") then Some ToReport
     else if bytes_eq w (codes "show") then Some ToShow
+    else if bytes_eq w (codes "show-figures") then Some ToShowFigures
     else if bytes_eq w (codes "close") then Some ToClose
     else if bytes_eq w (codes "clean") then Some ToClean
     else None
@@ -76,7 +86,9 @@ event_of None args = None
 event_of (Some ToPost) args = option_map (λ c. Card c.0 c.1) (card args)
 event_of (Some ToCorrect) args = option_map (λ c. Correction c.0 c.1) (card args)
 event_of (Some ToRecalculate) args = option_map (λ r. Recalculation r.0 r.1 r.2) (rounds args)
+event_of (Some ToFigures) args = option_map (λ r. Figures r.0 r.1) (round_range args)
 event_of (Some ToShow) args = option_map Show (handle args)
+event_of (Some ToShowFigures) args = option_map (λ r. ShowFigures r.0 r.1 r.2) (report_range args)
 event_of (Some ToClose) args = option_map Close (handle args)
 event_of (Some ToFinish) args = plain Finish args
 event_of (Some ToList) args = plain ListNow args

@@ -1,16 +1,18 @@
 -- The words for what an event did.
-use Rattle.std.specs.Prelude.{ℕ, List, ◌++◌, Ok, Err, codes, decimal, Result}
+use Rattle.std.specs.Prelude.{ℕ, List, ◌++◌, Some, None, Option, Ok, Err, codes, decimal, Result}
 use Rattle.refusals.specs.declared.Report.{Report}
 use Rattle.ledger.specs.Faults.{fault_report}
 use Rattle.ledger.specs.declared.Fault.{Fault}
+use Rattle.ledger.specs.declared.KeyedValue.{KeyedValue}
 use Rattle.ledger.specs.declared.Verdict.{Verdict}
 use Rattle.ledger.specs.declared.Verdict.TheVariants.{Closed, Restart, Spent, Full, Committed}
 use Rattle.answer_lines.specs.declared.LineFault.{LineFault}
 use Rattle.answer_lines.specs.Lines.{line_report, refused_text, spaced}
+use Rattle.club.specs.declared.said.Figures.{Figures}
 use Rattle.club.specs.declared.said.Recalculation.{Recalculation}
 use Rattle.club.specs.declared.said.Redone.{Redone}
 use Rattle.club.specs.declared.said.Said.{Said}
-use Rattle.club.specs.declared.said.Said.TheVariants.{Card, Correction, Recalculation as Opened, AlreadyOpen, NoneOpen, Ended, Restarted, Values, Report as ReportOpened, Removed}
+use Rattle.club.specs.declared.said.Said.TheVariants.{Card, Correction, Recalculation as Opened, AlreadyOpen, NoneOpen, Ended, Restarted, Values, Figures as FiguresTold, Report as ReportOpened, Removed}
 
 -- what is told of an answer, or of the text of a refusal
 abbrev pub answer_or_refusal : {T E X : Type 0} → (T → X) → (List ℕ → X) → (E → Report) → Result T E → X
@@ -39,6 +41,17 @@ recalculation_text w =
 abbrev pub redone_text : Redone → List ℕ
 redone_text d = recalculation_text d.work ++ (codes ", " ++ end_text d.end)
 
+-- the smallest value and its key, or that there is none
+abbrev pub least_text : Option KeyedValue → List ℕ
+least_text None = codes "none"
+least_text (Some x) = decimal x.value ++ (codes " for key " ++ decimal x.key)
+
+-- the three figures of a run of rounds
+abbrev pub figures_text : Figures → List ℕ
+figures_text f =
+    codes "sum " ++ (decimal f.sum ++ (codes ", smallest " ++ (least_text f.smallest ++ (codes ", "
+    ++ (decimal f.played ++ codes " rounds played")))))
+
 abbrev pub said_text : Said → List ℕ
 said_text (Card k x r) = codes "card " ++ (decimal x ++ (codes " for key " ++ (decimal k ++ (codes ": " ++ end_text r))))
 said_text (Correction k x was r) =
@@ -49,6 +62,7 @@ said_text NoneOpen = codes "no recalculation is open"
 said_text (Ended v) = ending_text v
 said_text (Restarted k s r) = ending_text (Restart k s) ++ (codes "; again: " ++ text_or_refused redone_text fault_report r)
 said_text (Values xs) = codes "values" ++ spaced xs
+said_text (FiguresTold f) = figures_text f
 said_text (ReportOpened h) = codes "report " ++ (decimal h ++ codes " opened")
 said_text (Removed n) = decimal n ++ codes " versions removed"
 

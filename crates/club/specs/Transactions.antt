@@ -1,16 +1,20 @@
 -- The transactions that a club's events are made of, as procedures.
-use Rattle.std.specs.Prelude.{ℕ, List, [], ◌∷◌, replicate, slice_index, take, Ok, Result}
+use Rattle.std.specs.Prelude.{ℕ, List, [], ◌∷◌, replicate, slice_index, take, None, Option, Ok, Result}
 use Rattle.refusals.specs.Results.{result_map}
 use Rattle.ledger.specs.declared.Kind.TheVariants.{Reader, Updater}
 use Rattle.ledger.specs.declared.Fault.{Fault}
+use Rattle.ledger.specs.declared.Figure.{Figure}
+use Rattle.ledger.specs.declared.KeyedValue.{KeyedValue}
+use Rattle.ledger.specs.declared.SummaryKind.TheVariants.{Sum, Smallest, NonZero}
 use Rattle.ledger.specs.declared.Verdict.{Verdict}
 use Rattle.club.specs.declared.said.TheConstants.{KEYS}
+use Rattle.club.specs.declared.said.Figures.{Figures}
 use Rattle.club.specs.declared.said.Recalculation.{Recalculation}
 use Rattle.club.specs.declared.said.Redone.{Redone}
 use Rattle.club.specs.declared.said.Said.{Said}
-use Rattle.club.specs.declared.said.Said.TheVariants.{Correction, Values}
+use Rattle.club.specs.declared.said.Said.TheVariants.{Correction, Values, Figures as SaidFigures}
 use Rattle.club.specs.Indexes.{index}
-use Rattle.procedures.specs.Procedures.{Procedure, pure, ◌>>=◌, begin, read, commit, and_then}
+use Rattle.procedures.specs.Procedures.{Procedure, pure, ◌>>=◌, begin, read, total, commit, and_then}
 use Rattle.procedures.specs.Updates.{begin_with_read, commit_with_write}
 
 -- Begin an updater, write x to k and commit.
@@ -59,3 +63,43 @@ abbrev pub report_shown : ℕ → Procedure (Result Said Fault)
 report_shown h = do
   seen ← read h 0 KEYS no_values
   pure (result_map (λ _. Values seen.1) seen.0)
+
+-- what a total told of the sum
+abbrev pub sum_in : Figure → ℕ
+sum_in (Figure.Sum n) = n
+sum_in _ = 0
+
+-- what a total told of the smallest
+abbrev pub smallest_in : Figure → Option KeyedValue
+smallest_in (Figure.Smallest x) = x
+smallest_in _ = None
+
+-- what a total told of how many are not 0
+abbrev pub number_in : Figure → ℕ
+number_in (Figure.NonZero n) = n
+number_in _ = 0
+
+-- Total n rounds from k on under h: their sum, the smallest of them, and how many are not 0.
+abbrev pub figures_told : ℕ → ℕ → ℕ → Procedure (Result Figures Fault)
+figures_told h k n = do
+  sum ← total h k n Sum
+  and_then sum λ s. do
+    smallest ← total h k n Smallest
+    and_then smallest λ x. do
+      number ← total h k n NonZero
+      pure (result_map (λ c. record { sum = sum_in s; smallest = smallest_in x; played = number_in c }) number)
+
+-- Begin a reader, tell the figures of n rounds from k on, and commit it.
+abbrev pub figures_listed : ℕ → ℕ → Procedure (Result Said Fault)
+figures_listed k n = do
+  begun ← begin Reader
+  and_then begun λ h. do
+    told ← figures_told h k n
+    _ ← commit h
+    pure (result_map SaidFigures told)
+
+-- Tell the figures of n rounds from k on under h.
+abbrev pub figures_shown : ℕ → ℕ → ℕ → Procedure (Result Said Fault)
+figures_shown h k n = do
+  told ← figures_told h k n
+  pure (result_map SaidFigures told)

@@ -8,7 +8,7 @@ ghost use Rattle.club.specs.Events.{Shows, engine_of, pending_of, pending_after,
 use crate::event::Event;
 use crate::line::parse;
 use crate::said::{Recalculation, Said};
-use crate::transactions::{correct, list, post, redo, show, work_out};
+use crate::transactions::{correct, list, list_figures, post, redo, show, show_figures, work_out};
 use answer_lines::LineFault;
 use engine::engine::Engine;
 use ledger::{Fault, Kind, Verdict};
@@ -70,10 +70,16 @@ impl<S: VersionStore, V: Validator> Desk<S, V> {
             } => self.recalculate(first, count, index),
             Event::Finish => self.finish(),
             Event::List => list(engine),
+            Event::Figures { first, count } => list_figures(engine, first, count),
             Event::Report => engine
                 .begin(Kind::Reader)
                 .map(|handle| Said::Report { handle }),
             Event::Show { report } => show(engine, report),
+            Event::ShowFigures {
+                report,
+                first,
+                count,
+            } => show_figures(engine, report, first, count),
             Event::Close { report } => engine.commit(report).map(Said::Ended),
             Event::CleanUp => Ok(Said::Removed {
                 count: engine.reclaim(),

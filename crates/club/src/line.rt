@@ -1,5 +1,5 @@
 ghost use Rattle.std.specs.Prelude.{◌≡◌};
-ghost use Rattle.club.specs.Lines.{word, behind, number, short, handle, card, rounds, verb, plain, event_in};
+ghost use Rattle.club.specs.Lines.{word, behind, number, short, handle, card, round_range, report_range, rounds, verb, plain, event_in};
 
 use crate::event::Event;
 
@@ -58,6 +58,24 @@ fn parse_card(args: &[u8]) -> Option<(u16, u64)>
     Some((parse_short(key)?, parse_long(value)?))
 }
 
+/// The first key of a run of rounds, and their count.
+fn parse_range(args: &[u8]) -> Option<(u16, u16)>
+    ensures { result ≡ round_range args.now }
+{
+    let (first, count) = split_word(args);
+    Some((parse_short(first)?, parse_short(count)?))
+}
+
+/// The handle of a report, and a run of rounds.
+fn parse_report_range(args: &[u8]) -> Option<(u32, u16, u16)>
+    ensures { result ≡ report_range args.now }
+{
+    let (report, args) = split_word(args);
+    let report = parse_handle(report)?;
+    let (first, count) = parse_range(args)?;
+    Some((report, first, count))
+}
+
 /// The first key of a run of rounds, their count, and the key of the index.
 fn parse_rounds(args: &[u8]) -> Option<(u16, u16, u16)>
     ensures { result ≡ rounds args.now }
@@ -79,8 +97,10 @@ enum Verb {
     Recalculate,
     Finish,
     List,
+    Figures,
     Report,
     Show,
+    ShowFigures,
     Close,
     CleanUp,
 }
@@ -95,8 +115,10 @@ fn parse_verb(word: &[u8]) -> Option<Verb>
         b"recalculate" => Some(Verb::Recalculate),
         b"finish" => Some(Verb::Finish),
         b"list" => Some(Verb::List),
+        b"figures" => Some(Verb::Figures),
         b"report" => Some(Verb::Report),
         b"show" => Some(Verb::Show),
+        b"show-figures" => Some(Verb::ShowFigures),
         b"close" => Some(Verb::Close),
         b"clean" => Some(Verb::CleanUp),
         _ => None,
@@ -127,7 +149,16 @@ pub fn parse(line: &[u8]) -> Option<Event>
                 index,
             })
         }
+        Verb::Figures => { parse_range(args).map(|(first, count)| Event::Figures { first, count }) }
         Verb::Show => parse_handle(args).map(|report| Event::Show { report }),
+        Verb::ShowFigures => {
+            let (report, first, count) = parse_report_range(args)?;
+            Some(Event::ShowFigures {
+                report,
+                first,
+                count,
+            })
+        }
         Verb::Close => parse_handle(args).map(|report| Event::Close { report }),
         Verb::Finish => parse_plain(Event::Finish, args),
         Verb::List => parse_plain(Event::List, args),

@@ -1,9 +1,9 @@
 //! What an event did, as a value that two engines' answers are compared by, and its words.
 ghost use Rattle.std.specs.Prelude.{Some};
-ghost use Rattle.club.specs.Texts.{answer_or_refusal, ending_text, recalculation_text, redone_text, said_text};
+ghost use Rattle.club.specs.Texts.{answer_or_refusal, ending_text, recalculation_text, redone_text, least_text, figures_text, said_text};
 
 use answer_lines::Spaced;
-use ledger::{Fault, Verdict};
+use ledger::{Fault, KeyedValue, Verdict};
 use refusals::Refusal;
 use std::fmt;
 
@@ -25,6 +25,14 @@ pub struct Recalculation {
 pub struct Redone {
     pub work: Recalculation,
     pub end: Result<Verdict, Fault>,
+}
+
+/// The figures of a run of rounds: their sum, the smallest, and how many were played.
+#[derive(Clone, Copy, PartialEq, Eq)]
+pub struct Figures {
+    pub sum: u64,
+    pub smallest: Option<KeyedValue>,
+    pub played: u64,
 }
 
 /// What an event did.
@@ -53,6 +61,7 @@ pub enum Said {
         again: Result<Redone, Fault>,
     },
     Values([u64; KEYS as usize]),
+    Figures(Figures),
     Report {
         handle: u32,
     },
@@ -123,6 +132,35 @@ impl fmt::Display for Redone {
     }
 }
 
+/// The smallest of a run of rounds, as it is printed.
+#[derive(Drop)]
+struct Least(Option<KeyedValue>);
+
+impl fmt::Display for Least {
+    ghost output = { λ l. Some (least_text l.0) };
+
+    fn fmt<W: fmt::Write>(&self, f: &mut fmt::Formatter<W>) -> fmt::Result {
+        match self.0 {
+            Some(KeyedValue { key, value }) => write!(f, "{value} for key {key}"),
+            None => write!(f, "none"),
+        }
+    }
+}
+
+impl fmt::Display for Figures {
+    ghost output = { λ x. Some (figures_text x) };
+
+    fn fmt<W: fmt::Write>(&self, f: &mut fmt::Formatter<W>) -> fmt::Result {
+        let Figures {
+            sum,
+            smallest,
+            played,
+        } = *self;
+        let smallest = Least(smallest);
+        write!(f, "sum {sum}, smallest {smallest}, {played} rounds played")
+    }
+}
+
 impl fmt::Display for Said {
     ghost output = { λ s. Some (said_text s) };
 
@@ -150,6 +188,7 @@ impl fmt::Display for Said {
                 write!(f, "{restart}; again: {}", Spoken(*again))
             }
             Said::Values(values) => write!(f, "values{}", Spaced { values }),
+            Said::Figures(figures) => write!(f, "{figures}"),
             Said::Report { handle } => write!(f, "report {handle} opened"),
             Said::Removed { count } => write!(f, "{count} versions removed"),
         }

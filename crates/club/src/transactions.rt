@@ -1,15 +1,16 @@
 //! The transactions that a club's events are made of, on any engine.
 ghost use Rattle.std.specs.Prelude.{IfOk};
-ghost use Rattle.club.specs.Moments.{ShowsNow, ShowsOpening};
+ghost use Rattle.club.specs.Moments.{club_in, figures_at, ShowsNow, ShowsOpening};
 ghost use Rattle.procedures.specs.Procedures.{Performs};
-ghost use Rattle.club.specs.Transactions.{posted, corrected, worked_out, redone, listed, report_shown};
+ghost use Rattle.club.specs.Transactions.{posted, corrected, worked_out, redone, listed, report_shown, figures_told, figures_listed, figures_shown};
 
 use crate::index::index_of;
-use crate::said::{KEYS, Recalculation, Redone, Said};
+use crate::said::{Figures, KEYS, Recalculation, Redone, Said};
 use engine::engine::Engine;
 use engine::slip::Reading;
 use ledger::{Fault, Kind, Verdict};
 use procedures::updates::{begin_with_read, commit_with_write};
+use summaries::kinds::{NonZero, Smallest, Sum};
 use validation::validator::Validator;
 use versions::store::VersionStore;
 
@@ -85,7 +86,7 @@ pub fn redo<S: VersionStore, V: Validator>(
 /// The club list: a reader with a slip in hand, which has to be given up.
 pub fn list<S: VersionStore, V: Validator>(engine: &mut Engine<S, V>) -> Result<Said, Fault>
     ensures performs { Performs S.meaning V.meaning engine.old engine.new listed result }
-    ensures now { IfOk result (ShowsNow S.meaning V.meaning engine.old) }
+    ensures now { IfOk result (ShowsNow S.meaning V.meaning engine.old club_in) }
 {
     let mut values = [0; KEYS as usize];
     let slip = engine.begin_slip::<Reading>()?;
@@ -95,15 +96,68 @@ pub fn list<S: VersionStore, V: Validator>(engine: &mut Engine<S, V>) -> Result<
     Ok(Said::Values(values))
 }
 
+/// The figures of a run of rounds as they are now: a reader with a slip in hand, as for the club list.
+pub fn list_figures<S: VersionStore, V: Validator>(
+    engine: &mut Engine<S, V>,
+    first: u16,
+    count: u16,
+) -> Result<Said, Fault>
+    ensures performs { Performs S.meaning V.meaning engine.old engine.new
+        (figures_listed first count) result }
+    ensures now { IfOk result (ShowsNow S.meaning V.meaning engine.old (figures_at first count)) }
+{
+    let slip = engine.begin_slip::<Reading>()?;
+    let figures = tell_figures(engine, slip.handle(), first, count);
+    let _ = engine.commit_under(slip);
+    figures.map(Said::Figures)
+}
+
 /// The club list that an open report shows.
 pub fn show<S: VersionStore, V: Validator>(
     engine: &mut Engine<S, V>,
     report: u32,
 ) -> Result<Said, Fault>
     ensures performs { Performs S.meaning V.meaning engine.old engine.new (report_shown report) result }
-    ensures opening { IfOk result (ShowsOpening S.meaning V.meaning engine.old report) }
+    ensures opening { IfOk result (ShowsOpening S.meaning V.meaning engine.old report club_in) }
 {
     let mut values = [0; KEYS as usize];
     engine.read(report, 0, KEYS, &mut values)?;
     Ok(Said::Values(values))
+}
+
+/// The figures of a run of rounds that an open report shows.
+pub fn show_figures<S: VersionStore, V: Validator>(
+    engine: &mut Engine<S, V>,
+    report: u32,
+    first: u16,
+    count: u16,
+) -> Result<Said, Fault>
+    ensures performs { Performs S.meaning V.meaning engine.old engine.new
+        (figures_shown report first count) result }
+    ensures opening { IfOk result (ShowsOpening S.meaning V.meaning engine.old report
+        (figures_at first count)) }
+{
+    tell_figures(engine, report, first, count).map(Said::Figures)
+}
+
+/// The three figures of a run of rounds, each a total under the handle; the first that is refused is the answer.
+fn tell_figures<S: VersionStore, V: Validator>(
+    engine: &mut Engine<S, V>,
+    handle: u32,
+    first: u16,
+    count: u16,
+) -> Result<Figures, Fault>
+    ensures performs { Performs S.meaning V.meaning engine.old engine.new
+        (figures_told handle first count) result }
+    ensures opening { IfOk result (λ f. ShowsOpening S.meaning V.meaning engine.old handle
+        (figures_at first count) (Said.Figures f)) }
+{
+    let sum = engine.total::<Sum>(handle, first, count)?;
+    let smallest = engine.total::<Smallest>(handle, first, count)?;
+    let number = engine.total::<NonZero>(handle, first, count)?;
+    Ok(Figures {
+        sum: sum.value,
+        smallest: smallest.least,
+        played: number.count,
+    })
 }

@@ -29,11 +29,11 @@ chain = new_store (chain_check 8 8 9) 8 9
 abbrev pub stamp_table : Stamps
 stamp_table = new_stamps (stamp_table_check 8 1 8) 8 (λ k. k / 1)
 
-pub first_limits : limits_of (last_of 51 log recent) log recent ≡ day_limits
+pub first_limits : limits_of (last_of 54 log recent) log recent ≡ day_limits
 first_limits = refl
 
-pub second_limits : limits_of (last_of 51 chain stamp_table) chain stamp_table ≡ day_limits
-second_limits = ap (λ (g : ℕ → ℕ). record { keys = 8; cells = 9; last = 51; granule = g }) granule_of_one
+pub second_limits : limits_of (last_of 54 chain stamp_table) chain stamp_table ≡ day_limits
+second_limits = ap (λ (g : ℕ → ℕ). record { keys = 8; cells = 9; last = 54; granule = g }) granule_of_one
 
 module _ {S V S' V' : Type 0} (m : S → Store) (p : V → Stamps) (m' : S' → Store) (p' : V' → Stamps) where
   -- one new ledger fits both engines, so nothing is told apart

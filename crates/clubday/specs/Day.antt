@@ -4,9 +4,9 @@ use Rattle.ledger.specs.Ledger.{Limits, new_ledger}
 use Rattle.club.specs.declared.said.TheConstants.{KEYS}
 use Rattle.club.specs.Afternoons.{afternoon_text}
 
--- the club's keys, each its own granule, 9 cells, and 51 ticks
+-- the club's keys, each its own granule, 9 cells, and 54 ticks
 abbrev pub day_limits : Limits
-day_limits = record { keys = KEYS; cells = 9; last = 51; granule = λ k. k }
+day_limits = record { keys = KEYS; cells = 9; last = 54; granule = λ k. k }
 
 -- what is written for the lines of a day, from nothing
 abbrev pub day_text : List (List ℕ) → List ℕ

@@ -25,7 +25,7 @@ use versions::store::Version;
 // Nine cells for the club's versions, and ticks for a short afternoon.
 const CELLS: usize = 9;
 
-const DAY_LAST_TICK: u32 = 51;
+const DAY_LAST_TICK: u32 = 54;
 
 /// Answers the lines of an afternoon: on the log store with the recent list, and beside it on the chain store
 /// with the stamp table.

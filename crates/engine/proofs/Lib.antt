@@ -2,6 +2,7 @@ pub mod Revisions
 pub mod Fittings
 pub mod Fills
 pub mod CallSteps
+pub mod Totals
 pub mod SetUps
 pub mod Histories
 pub mod Replays

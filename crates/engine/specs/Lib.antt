@@ -5,4 +5,5 @@ pub mod Endings
 pub mod Verdicts
 pub mod Parts
 pub mod Steps
+pub mod Totals
 pub mod Replays

@@ -1,26 +1,24 @@
-ghost use Rattle.std.specs.Prelude.{◌≡◌, ◌+◌, ◌^◌, ◌<◌, ◌≤◌, ◌++◌, map, length, drop, position, IfOk, OnErr};
-ghost use Rattle.std.specs.List.{range_with_len};
+ghost use Rattle.std.specs.Prelude.{◌≡◌, ◌<◌, position, IfOk, OnErr};
 ghost use Rattle.std.specs.Option.{ok_or};
 ghost use Rattle.refusals.specs.Results.{result_map};
-ghost use Rattle.ledger.specs.declared.Call.TheVariants.{Begin, Read, Write, Abort};
-ghost use Rattle.ledger.specs.declared.Done.TheVariants.{Began, Read as ReadDone, Wrote, Aborted};
+ghost use Rattle.ledger.specs.declared.Call.TheVariants.{Begin, Write, Abort};
+ghost use Rattle.ledger.specs.declared.Done.TheVariants.{Began, Wrote, Aborted};
 ghost use Rattle.ledger.specs.declared.Fault.TheVariants.{NoTransaction};
-ghost use Rattle.transaction_table.specs.View.{view};
 ghost use Rattle.transaction_table.specs.Slots.{begin_answer, has_handle};
-ghost use Rattle.engine.specs.Reads.{read_value};
 ghost use Rattle.engine.specs.Parts.{store_of, validator_of, table_of, FitsNew};
 ghost use Rattle.engine.specs.SetUp.{engine_check, last_of};
-ghost use Rattle.engine.specs.Steps.{Refines, RefinesUnlent, StaysIdle};
+ghost use Rattle.engine.specs.Steps.{RefinesUnlent, StaysIdle};
 
 use crate::fault::SetUpFault;
-use ledger::{Call, Fault, Kind, MAX_ACTIVE, Range};
-use transaction_table::record::{Record, State};
+use ledger::{Call, Fault, Kind, MAX_ACTIVE};
+use transaction_table::record::State;
 use transaction_table::table::TransactionTable;
 use validation::validator::Validator;
 use versions::store::VersionStore;
 
 mod calling;
 mod ending;
+mod reading;
 
 /// The last tick is at most this.
 pub const LAST_TICK: u32 = 4_294_967_294;
@@ -76,32 +74,6 @@ impl<S: VersionStore, V: Validator> Engine<S, V> {
         self.table.begin(kind)
     }
 
-    /// Reads the values of count keys from the first on into the front of the buffer.
-    pub fn read(
-        &mut self,
-        handle: u32,
-        first: u16,
-        count: u16,
-        buffer: &mut [u64],
-    ) -> Result<(), Fault>
-        ensures refines { Refines S.meaning V.meaning self.old self.new
-            (Read handle first count) buffer.old (result_map (λ _. ReadDone count) result) buffer.new }
-        ensures refusal { OnErr result ((self.new ≡ self.old) × (buffer.new ≡ buffer.old)) }
-        ensures idle { StaysIdle self.old self.new }
-    {
-        let slot = self.place(handle)?;
-        let keys = self.store.keys();
-        let record = &mut self.table.records[slot];
-        let call = Call::Read {
-            handle,
-            first,
-            count,
-        };
-        record.take(call, keys, buffer.len())?;
-        fill(&self.store, record, Range { first, count }, buffer);
-        Ok(())
-    }
-
     /// Notes a value to be written to a key when the transaction is committed.
     pub fn write(&mut self, handle: u32, key: u16, value: u64) -> Result<(), Fault>
         ensures refines { RefinesUnlent S.meaning V.meaning self.old self.new
@@ -139,35 +111,5 @@ impl<S: VersionStore, V: Validator> Engine<S, V> {
         self.table
             .find(handle)
             .ok_or(Fault::NoTransaction { handle })
-    }
-}
-
-/// Fills the front of the buffer with what the transaction reads at the keys of the range.
-fn fill<S: VersionStore>(store: &S, transaction: &Record, range: Range, buffer: &mut [u64])
-    requires count_in_bounds { range.count ≤ length buffer.old }
-    requires count_bound { range.first + range.count < 2 ^ 16 }
-    requires in_store { range.first + range.count ≤ (S.meaning store.now).keys }
-    ensures { buffer.new ≡ map (read_value (S.meaning store.now) (view transaction.now))
-        (range_with_len range.first range.count) ++ drop range.count buffer.old }
-{
-    // No `zip` with the keys: of what a loop writes through a `zip` no proof knows the values.
-    let front = &mut buffer[..usize::from(range.count)];
-    for (i, place) in front.iter_mut().enumerate() {
-        // `i` is below the count.
-        *place = value_at(store, transaction, range.first + i as u16);
-    }
-}
-
-/// What the transaction reads at a key.
-fn value_at<S: VersionStore>(store: &S, transaction: &Record, key: u16) -> u64
-    requires { key < (S.meaning store.now).keys }
-    ensures { result ≡ read_value (S.meaning store.now) (view transaction.now) key }
-{
-    match transaction.state {
-        State::Updater => match transaction.writes.value(key) {
-            Some(own) => own,
-            None => store.newest(key).unwrap().1,
-        },
-        State::Free | State::Reader => store.as_of(key, transaction.moment()).unwrap().1,
     }
 }

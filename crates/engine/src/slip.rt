@@ -7,10 +7,13 @@ ghost use Rattle.ledger.specs.declared.Call.TheVariants.{Begin, Read, Write, Com
 ghost use Rattle.ledger.specs.declared.Done.TheVariants.{Began, Read as ReadDone, Wrote, Ended, Aborted};
 ghost use Rattle.engine.specs.Parts.{slip_handle};
 ghost use Rattle.engine.specs.Steps.{Refines, RefinesUnlent, StaysIdle};
+ghost use Rattle.engine.specs.Totals.{TotalsRead, HalvesJoin};
+ghost use Rattle.summaries.specs.Summaries.{summary_of};
 
 use crate::engine::Engine;
 use ledger::{Fault, Kind, Verdict};
 use std::marker::PhantomData;
+use summaries::Summary;
 use validation::validator::Validator;
 use versions::store::VersionStore;
 
@@ -111,6 +114,22 @@ impl<S: VersionStore, V: Validator> Engine<S, V> {
         ensures idle { StaysIdle self.old self.new }
     {
         self.read(slip.handle, first, count, buffer)
+    }
+
+    pub fn total_under<K, M: Summary + Drop>(
+        &mut self,
+        slip: &Slip<K>,
+        first: u16,
+        count: u16,
+    ) -> Result<M, Fault>
+        ensures refines { TotalsRead S.meaning V.meaning self.old self.new
+            (slip_handle slip.now) first count (summary_of M.one M.neutral M.join first) result }
+        ensures halves { HalvesJoin S.meaning V.meaning self.old M.join
+            (summary_of M.one M.neutral M.join) (slip_handle slip.now) first count result }
+        ensures refusal { OnErr result (self.new ≡ self.old) }
+        ensures idle { StaysIdle self.old self.new }
+    {
+        self.total(slip.handle, first, count)
     }
 
     /// Only an updater's slip lets it write.

@@ -10,3 +10,5 @@ mod calls;
 mod limits;
 #[cfg(test)]
 mod slips;
+#[cfg(test)]
+mod totals;

@@ -32,6 +32,7 @@ joined_keeps k n = record {
 -- so is what a call makes of its transaction
 pub call_keeps : (c : Call) → KeepsIdentity (λ t. having_made t c)
 call_keeps (Call.Read h k n) = joined_keeps k n
+call_keeps (Call.Total h k n s) = joined_keeps k n
 call_keeps _ = record { start = λ t. refl; kind = λ t. refl }
 
 pub joined_writes : (t : Transaction) (k n : ℕ) → (joined t k n).writes ≡ t.writes

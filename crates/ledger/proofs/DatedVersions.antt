@@ -90,7 +90,7 @@ dated_made l m e s d (beginning few more) = record {
   strict = d.strict;
   unlike = (All-weaker _ _ (λ v le e. omega arith) l.versions d.stamps, d.unlike);
 }
-dated_made l m e s d (reading {h = h} {k = k} {n = n} t f inside room) = dated_changed l h _ (call_keeps (Call.Read h k n)) d
+dated_made l m e s d (reading {h = h} {k = k} {n = n} how t f inside room) = dated_changed l h _ (call_keeps (Call.Read h k n)) d
 dated_made l m e s d (setting {h = h} {k = k} {x = x} t f upd inside room) = dated_changed l h _ (call_keeps (Call.Write h k x)) d
 dated_made l m e s d (committing {h = h} t f upd clear more room) = dated_installed l t s.fine (well_formed_found s h t f).0 more d
 dated_made l m e s d (ending {h = h} t f) = dated_ended l h d

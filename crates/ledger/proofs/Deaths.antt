@@ -89,7 +89,7 @@ ages_reclaimed l = ages_alone l (reclaimed l) (bare_reclaimed l) (narrows_same r
 pub ages_made : (l m : Ledger) (d : Deed) → Makes l d m → Ages l m
 ages_made l m d resting = ages_alone l l refl (narrows_same refl)
 ages_made l m d (beginning {kind = kind} few more) = ages_alone l (opened l kind) refl (outlook_opened l kind)
-ages_made l m d (reading {h = h} {k = k} {n = n} t f inside room) = ages_alone l m refl (narrows_same (sym (outlook_changed l h _ (call_keeps (Call.Read h k n)))))
+ages_made l m d (reading {h = h} {k = k} {n = n} how t f inside room) = ages_alone l m refl (narrows_same (sym (outlook_changed l h _ (call_keeps (Call.Read h k n)))))
 ages_made l m d (setting {h = h} {k = k} {x = x} t f upd inside room) = ages_alone l m refl (narrows_same (sym (outlook_changed l h _ (call_keeps (Call.Write h k x)))))
 ages_made l m d (committing t f upd clear more room) = record { news = stamped (l.clock + 1) t.writes; bares = refl; narrows = outlook_installed l t }
 ages_made l m d (ending {h = h} t f) = ages_alone l m refl (outlook_ended l h)

@@ -9,7 +9,7 @@ use Rattle.ledger.specs.declared.Kind.{Kind}
 use Rattle.ledger.specs.declared.Kind.TheVariants.{Reader, Updater}
 use Rattle.ledger.specs.Ledger.{Limits, Ledger, outlook, newest_value}
 use Rattle.ledger.specs.Calls.{opened, seen, ended, reclaimed}
-use Rattle.ledger.specs.History.{Made, Deed, begins, ends, rests, after, IsTold, Operation, read_range, write_key, operations, operation_in, when, saw, seen_in, standing_in, at_tick, stands_at}
+use Rattle.ledger.specs.History.{Made, Sight, sight_of, Deed, begins, ends, rests, after, IsTold, Operation, read_range, write_key, operations, operation_in, when, saw, seen_in, standing_in, at_tick, stands_at}
 use Rattle.ledger.specs.Serial.{table, run, operations_of, run_reads}
 use Rattle.ledger.specs.Orderly.{IsSound}
 use Rattle.ledger.proofs.Actives.{found_without, never}
@@ -23,7 +23,7 @@ use Rattle.ledger.proofs.Serials.{TellsStory, inv_less, placing, inv_begin, did,
 
 story_same : (s z : Story) → ((h : ℕ) → s.operations h ≡ z.operations h) → ((h : ℕ) → s.saw h ≡ z.saw h) → ((t : ℕ) → s.stands t ≡ z.stands t) → s ≡ z
 story_same s z a b c =
-    let mk : (ℕ → List Operation) → (ℕ → List (List ℕ)) → (ℕ → Option ℕ) → Story = λ p q r. record { operations = p; saw = q; stands = r } in
+    let mk : (ℕ → List Operation) → (ℕ → List Sight) → (ℕ → Option ℕ) → Story = λ p q r. record { operations = p; saw = q; stands = r } in
     ap (λ p. mk p s.saw s.stands) (fun_ext a) ∙ ap (λ p. mk z.operations p s.stands) (fun_ext b) ∙ ap (λ p. mk z.operations z.saw p) (fun_ext c)
 
 -- the story with one deed more
@@ -69,10 +69,10 @@ retold {l = l} e i = subst (λ x. TellsStory x l) e i
 inv_made : (s : Story) (l m : Ledger) (d : Deed) → TellsStory s l → IsSound m → Makes l d m → TellsStory (story_with s d) m
 inv_made s l m d i fine resting = retold (quiet_deed s rests (λ h. refl) (λ h. refl)) i
 inv_made s l m d i fine (beginning {kind = k} few more) = retold (quiet_deed s (begins k (l.clock + 1)) (λ h. refl) (λ h. refl)) (begin_stands s l i k fine)
-inv_made s l m d i fine (reading {h = g} {k = k} {n = n} t f inside room) =
-    let vs = map (seen l t) (range_with_len k n) in
-    retold (story_same (did s g (read_range k n) (vs ∷ [])) (story_with s d) (λ h. sym (push_cond (eqb g h) (s.operations h) (read_range k n))) (λ h. sym (push_cond (eqb g h) (s.saw h) vs)) (λ x. refl))
-    (inv_read s l i g t f k n fine)
+inv_made s l m d i fine (reading {h = g} {k = k} {n = n} how t f inside room) =
+    let sight = sight_of how k (map (seen l t) (range_with_len k n)) in
+    retold (story_same (did s g (read_range k n how) (sight ∷ [])) (story_with s d) (λ h. sym (push_cond (eqb g h) (s.operations h) (read_range k n how))) (λ h. sym (push_cond (eqb g h) (s.saw h) sight)) (λ x. refl))
+    (inv_read s l i g t f k n how fine)
 inv_made s l m d i fine (setting {h = g} {k = k} {x = x} t f upd inside room) =
     retold (story_same (did s g (write_key k x) []) (story_with s d) (λ h. sym (push_cond (eqb g h) (s.operations h) (write_key k x))) (λ h. sym (nil_cond (eqb g h) (s.saw h))) (λ y. refl))
     (inv_write s l i g t f k x upd fine)

@@ -14,5 +14,6 @@ pub mod Histories
 pub mod Verdicts
 pub mod Times
 pub mod Restarts
+pub mod Totals
 pub mod Readers
 pub mod Whole

@@ -8,14 +8,16 @@ use Rattle.ledger.specs.declared.Kind.TheVariants.{Reader}
 use Rattle.ledger.specs.declared.Call.{Call}
 use Rattle.ledger.specs.declared.Done.{Done}
 use Rattle.ledger.specs.declared.Fault.{Fault}
+use Rattle.ledger.specs.Figures.{figure_of}
 use Rattle.ledger.specs.Ledger.{Limits, Transaction, Ledger, found, is_reader, value_below}
-use Rattle.ledger.specs.Calls.{Effect, maker, by_handle, transaction_check, begin_check, begin_effect, read_effect, step, opened, seen}
-use Rattle.ledger.specs.History.{Made, after, IsTold, updater_in}
+use Rattle.ledger.specs.Calls.{new_buffer, Effect, outcome, total_effect, maker, by_handle, transaction_check, begin_check, begin_effect, read_effect, step, opened, seen}
+use Rattle.ledger.specs.History.{Made, call_made, after, IsTold, updater_in}
 use Rattle.ledger.specs.Serial.{table}
-use Rattle.ledger.specs.Laws.{MomentLaw, read_now}
+use Rattle.ledger.specs.Laws.{MomentLaw, FigureMomentLaw}
 use Rattle.ledger.proofs.SoundActives.{well_formed_found}
 use Rattle.ledger.proofs.Histories.{inv, table_is}
-use Rattle.ledger.proofs.Steps.{checked}
+use Rattle.ledger.proofs.Steps.{checked, read_way, filled}
+use Rattle.ledger.proofs.Totals.{figure_same}
 use Rattle.ledger.proofs.Restarts.{tells}
 
 -- a call that is accepted has passed its check, and has its effect
@@ -55,6 +57,14 @@ moment n ms h k c b b' told reader =
     let q = read_by_one (after n ms) b h k c told.0 in
     told.1 ∙ q.1.1 ∙ ap (λ xs. xs ++ drop c b) (ap (λ f. map f (range_with_len k c)) (fun_ext (seen_before n ms told.2 h q.0 q.1.0 reader)))
 
+-- the same, told in a figure
+pub figure_moment : FigureMomentLaw
+figure_moment n ms h k c s f b b' told reader =
+    let l = after n ms in
+    read_way l (new_buffer c) h k c (λ r. Ok (Done.Total f) ≡ (outcome l b (result_map (total_effect b k s) r)).answer → f ≡ figure_of s k (map (table ms (h - 1)) (range_with_len k c))) (λ _ q. cc)
+    (λ t e inside room q. figure_same f _ q ∙ ap (figure_of s k) (filled (seen l t) k c ∙ ap (λ f. map f (range_with_len k c)) (fun_ext (seen_before n ms told.2 h t e reader))))
+    told.0
+
 -- an accepted begin of a reader
 begun_by_one : (l : Ledger) (b : List ℕ) (h : ℕ) → Ok (Done.Began h) ≡ (step l (Call.Begin Reader) b).answer → (h ≡ l.clock + 1) × ((step l (Call.Begin Reader) b).ledger ≡ opened l Reader)
 begun_by_one l b h e =
@@ -67,16 +77,24 @@ begun_by_one l b h e =
     tick : ◌≡◌ {A = Result Done Fault} (Ok (Done.Began h)) (Ok (Done.Began (l.clock + 1))) → h ≡ l.clock + 1
     tick q = cc
 
--- a reader that begins now is shown the table as it is
-pub shown_now : (n : Limits) (ms : List Made) (h k c : ℕ) (b b' d d' : List ℕ) → IsTold n (read_now h k c b b' ∷ (record { call = Call.Begin Reader; given = d; answer = Ok (Done.Began h); left = d' }) ∷ ms) → b' ≡ map (table ms (after n ms).clock) (range_with_len k c) ++ drop c b
-shown_now n ms h k c b b' d d' told =
-    let begin : Made = record { call = Call.Begin Reader; given = d; answer = Ok (Done.Began h); left = d' } in
-    let l = after n ms in
-    let q = begun_by_one l d h told.2.0 in
-    let before : (j : ℕ) → table (begin ∷ ms) (h - 1) j ≡ table ms l.clock j = λ j.
-    let here = (inv n (begin ∷ ms) told.2).value (h - 1) j (omega (arith, q.0, ap (λ (x : Ledger). x.clock) q.1)) in
-    let there = (inv n ms told.2.2).value l.clock j (omega arith) in
-    let tick : h - 1 ≡ l.clock = omega (arith, q.0) in
-    ap (λ v. v j) (table_is (begin ∷ ms) (h - 1)) ∙ sym here ∙ ap (λ x. value_below j (suc x) (after n (begin ∷ ms)).versions) tick ∙ ap (λ (x : Ledger). value_below j (suc l.clock) x.versions) q.1 ∙ there ∙ ap (λ v. v j) (sym (table_is ms l.clock)) in
-    moment n (begin ∷ ms) h k c b b' told ((tells n ms told.2.2).silent h (omega (arith, q.0))).1
-    ∙ ap (λ xs. xs ++ drop c b) (ap (λ f. map f (range_with_len k c)) (fun_ext before))
+-- a reader begins now
+abbrev pub begin_now : ℕ → List ℕ → List ℕ → Made
+begin_now h d d' = call_made (Call.Begin Reader) d (Ok (Done.Began h)) d'
+
+module _ (n : Limits) (ms : List Made) (h : ℕ) (d d' : List ℕ) (told : IsTold n (begin_now h d d' ∷ ms)) where
+  abbrev l : Ledger
+  l = after n ms
+
+  begun : (h ≡ l.clock + 1) × ((step l (Call.Begin Reader) d).ledger ≡ opened l Reader)
+  begun = begun_by_one l d h told.0
+
+  pub no_updater : updater_in h (begin_now h d d' ∷ ms) ≡ false
+  no_updater = ((tells n ms told.2).silent h (omega (arith, begun.0))).1
+
+  -- the table below its start is the table as it is
+  pub table_begun : table (begin_now h d d' ∷ ms) (h - 1) ≡ table ms l.clock
+  table_begun = fun_ext (λ j.
+      let here = (inv n (begin_now h d d' ∷ ms) told).value (h - 1) j (omega (arith, begun.0, ap (λ (x : Ledger). x.clock) begun.1)) in
+      let there = (inv n ms told.2).value l.clock j (omega arith) in
+      let tick : h - 1 ≡ l.clock = omega (arith, begun.0) in
+      ap (λ v. v j) (table_is (begin_now h d d' ∷ ms) (h - 1)) ∙ sym here ∙ ap (λ x. value_below j (suc x) (after n (begin_now h d d' ∷ ms)).versions) tick ∙ ap (λ (x : Ledger). value_below j (suc l.clock) x.versions) begun.1 ∙ there ∙ ap (λ v. v j) (sym (table_is ms l.clock)))

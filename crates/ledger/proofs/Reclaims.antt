@@ -3,13 +3,16 @@ use Rattle.std.proofs.Common.{◌≡◌, ℕ, ◌+◌, ◌-◌, ◌≤◌, Bool,
 use Rattle.std.specs.List.{range_with_len}
 use mathlib.Core.Path.{fun_ext}
 use Rattle.std.specs.Option.{is_some}
+use Rattle.ledger.specs.declared.SummaryKind.{SummaryKind}
 use Rattle.ledger.specs.declared.Fault.{Fault}
 use Rattle.ledger.specs.declared.Verdict.{Verdict}
 use Rattle.ledger.specs.declared.Verdict.TheVariants.{Closed, Spent, Committed}
 use Rattle.ledger.specs.declared.Done.{Done}
 use Rattle.ledger.specs.declared.Call.{Call}
+use Rattle.refusals.specs.Results.{result_map}
+use Rattle.ledger.specs.Figures.{figure_of}
 use Rattle.ledger.specs.Ledger.{Limits, Transaction, Version, Ledger, is_reader, outlook, present_count, shortage, own_write, value_below, newest_value}
-use Rattle.ledger.specs.Calls.{Outcome, Effect, accepted, ended, opened, seen, with_call, having_made, begin_check, by_handle, read_effect, commit_effect, reclaimed, StaleRead, stale_read, read_keys, shortage_in, reclaimed_if_short, stamped, out_of_ticks, full_or_committed, verdict_after, verdict, left_by, is_judged, judged, step}
+use Rattle.ledger.specs.Calls.{new_buffer, Outcome, Effect, accepted, ended, opened, seen, with_call, having_made, begin_check, by_handle, read_effect, total_effect, total_result, outcome, commit_effect, reclaimed, StaleRead, stale_read, read_keys, shortage_in, reclaimed_if_short, stamped, out_of_ticks, full_or_committed, verdict_after, verdict, left_by, is_judged, judged, step}
 use Rattle.ledger.specs.History.{is_reclaim, Made, after, IsTold, others, asked}
 use Rattle.ledger.specs.Laws.{ReclaimLaw, VerdictLaw}
 use Rattle.ledger.proofs.Actives.{call_keeps}
@@ -128,9 +131,20 @@ module _ (l : Ledger) (vs : List Version) (n : ℕ) (e : swept (outlook l) l.ver
     ledger = alike_call l vs n e h (Call.Read h k m);
   }
 
+  -- what agrees as a read agrees as a total
+  agree_total : (b : List ℕ) (h k m : ℕ) (s : SummaryKind) → Agrees (outcome l b (total_result l b h k m s)) (outcome two b (total_result two b h k m s))
+  agree_total b h k m s = go (by_handle l (new_buffer m) h (Call.Read h k m))
+    where
+      go : (r : Result Transaction Fault) → Agrees (checked l b (result_map (read_effect l (new_buffer m) h k m) r) (total_effect b k s)) (checked two b (result_map (read_effect two (new_buffer m) h k m) r) (total_effect b k s))
+      go (Ok t) =
+          let a = agree_read (new_buffer m) h k m t in
+          record { answer = ap (λ xs. Ok (Done.Total (figure_of s k xs))) a.buffer; buffer = refl; ledger = a.ledger }
+      go (Err x) = record { answer = refl; buffer = refl; ledger = alike vs n e }
+
 agree_step : {l m : Ledger} → IsAlike l m → (c : Call) (b : List ℕ) → is_reclaim c ≡ false → Agrees (step l c b) (step m c b)
 agree_step {l = l} (alike vs n e) (Call.Begin kind) b r = agree_checked l vs n e b (begin_check (length l.active) l.clock l.limits.last) _ _ (λ _. record { done = refl; buffer = refl; ledger = alike_moved l vs n e (l.clock + 1) (opened l kind).active (outlook_opened l kind) })
 agree_step {l = l} (alike vs n e) (Call.Read h k m) b r = agree_checked l vs n e b (by_handle l b h (Call.Read h k m)) _ _ (agree_read l vs n e b h k m)
+agree_step {l = l} (alike vs n e) (Call.Total h k m s) b r = agree_total l vs n e b h k m s
 agree_step {l = l} (alike vs n e) (Call.Write h k x) b r = agree_checked l vs n e b (by_handle l b h (Call.Write h k x)) _ _ (λ _. record { done = refl; buffer = refl; ledger = alike_call l vs n e h (Call.Write h k x) })
 agree_step {l = l} (alike vs n e) (Call.Commit h) b r = agree_checked l vs n e b (by_handle l b h (Call.Commit h)) _ _ (agree_commit l vs n e b h)
 agree_step {l = l} (alike vs n e) (Call.Abort h) b r = agree_checked l vs n e b (by_handle l b h (Call.Abort h)) _ _ (λ _. record { done = refl; buffer = refl; ledger = alike_ended l vs n e h })

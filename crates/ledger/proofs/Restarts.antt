@@ -66,12 +66,12 @@ find_joined p u k n upd = go (joins u n) refl
 
 keys_read_append : (xs ys : List Operation) → keys_read (xs ++ ys) ≡ keys_read xs ++ keys_read ys
 keys_read_append [] ys = refl
-keys_read_append (read_range k n ∷ xs) ys = ap (λ ks. range_with_len k n ++ ks) (keys_read_append xs ys) ∙ sym (append_assoc (range_with_len k n) (keys_read xs) (keys_read ys))
+keys_read_append (read_range k n how ∷ xs) ys = ap (λ ks. range_with_len k n ++ ks) (keys_read_append xs ys) ∙ sym (append_assoc (range_with_len k n) (keys_read xs) (keys_read ys))
 keys_read_append (write_key k x ∷ xs) ys = keys_read_append xs ys
 
 writes_append : (g : ℕ → ℕ) (k : ℕ) (xs ys : List Operation) → writes_into g k (xs ++ ys) ≡ (writes_into g k xs || writes_into g k ys)
 writes_append g k [] ys = refl
-writes_append g k (read_range j n ∷ xs) ys = writes_append g k xs ys
+writes_append g k (read_range j n how ∷ xs) ys = writes_append g k xs ys
 writes_append g k (write_key j x ∷ xs) ys = ap (λ b. eqb (g j) (g k) || b) (writes_append g k xs ys) ∙ sym (or_assoc (eqb (g j) (g k)) (writes_into g k xs) (writes_into g k ys))
 
 -- a write list writes into the granule of the key k
@@ -270,12 +270,12 @@ module _ (c : Chronicle) (l : Ledger) (s : Tells c l) (order : IsOrderly l) (g :
 tells_made : (c : Chronicle) (l m : Ledger) (d : Deed) → IsOrderly l → Tells c l → Makes l d m → Tells (chronicle_with c d) m
 tells_made c l m d order s resting = subst (λ x. Tells x l) (only_operates c c.operations rests (λ h. sym (append-nil (c.operations h))) refl refl refl) s
 tells_made c l m d order s (beginning {kind = kind} few more) = tells_begun c l s order kind
-tells_made c l m d order s (reading {h = g} {k = k} {n = n} u f inside room) =
+tells_made c l m d order s (reading {h = g} {k = k} {n = n} how u f inside room) =
     let w = s.active g u f in
-    subst (λ x. Tells x m) (only_operates c (λ h. cond (eqb g h) (c.operations h ++ (read_range k n ∷ [])) (c.operations h)) d (λ h. sym (push_cond (eqb g h) (c.operations h) (read_range k n))) refl refl refl)
-    (tells_operated c l s order g u f (read_range k n) (λ t. having_made t (Call.Read g k n)) (call_keeps (Call.Read g k n))
-    (λ r p. ap (find p) (keys_read_append (c.operations g) (read_range k n ∷ []) ∙ ap (λ ks. keys_read (c.operations g) ++ ks) (append-nil (range_with_len k n))) ∙ find-append p (keys_read (c.operations g)) (range_with_len k n) ∙ ap (λ x. option_or x (find p (range_with_len k n))) (w.reads r p) ∙ find_joined p u k n r)
-    (λ γ j. writes_append γ j (c.operations g) (read_range k n ∷ []) ∙ or-false (writes_into γ j (c.operations g)) ∙ w.writes γ j ∙ ap (list_writes_into γ j) (sym (joined_writes u k n))))
+    subst (λ x. Tells x m) (only_operates c (λ h. cond (eqb g h) (c.operations h ++ (read_range k n how ∷ [])) (c.operations h)) d (λ h. sym (push_cond (eqb g h) (c.operations h) (read_range k n how))) refl refl refl)
+    (tells_operated c l s order g u f (read_range k n how) (λ t. having_made t (Call.Read g k n)) (call_keeps (Call.Read g k n))
+    (λ r p. ap (find p) (keys_read_append (c.operations g) (read_range k n how ∷ []) ∙ ap (λ ks. keys_read (c.operations g) ++ ks) (append-nil (range_with_len k n))) ∙ find-append p (keys_read (c.operations g)) (range_with_len k n) ∙ ap (λ x. option_or x (find p (range_with_len k n))) (w.reads r p) ∙ find_joined p u k n r)
+    (λ γ j. writes_append γ j (c.operations g) (read_range k n how ∷ []) ∙ or-false (writes_into γ j (c.operations g)) ∙ w.writes γ j ∙ ap (list_writes_into γ j) (sym (joined_writes u k n))))
 tells_made c l m d order s (setting {h = g} {k = k} {x = x} u f upd inside room) =
     let w = s.active g u f in
     subst (λ x. Tells x m) (only_operates c (λ h. cond (eqb g h) (c.operations h ++ (write_key k x ∷ [])) (c.operations h)) d (λ h. sym (push_cond (eqb g h) (c.operations h) (write_key k x))) refl refl refl)
@@ -320,7 +320,7 @@ same_limits n (m ∷ ms) = limits_after (course_of (after n ms) m.call m.given) 
     limits_made : (l m : Ledger) (d : Deed) → Makes l d m → m.limits ≡ l.limits
     limits_made l m d resting = refl
     limits_made l m d (beginning few more) = refl
-    limits_made l m d (reading t f inside room) = refl
+    limits_made l m d (reading how t f inside room) = refl
     limits_made l m d (setting t f upd inside room) = refl
     limits_made l m d (committing t f upd none_stale more room) = refl
     limits_made l m d (ending t f) = refl

@@ -63,7 +63,7 @@ safe_installed l t y dies room =
 safe_by : (l m : Ledger) (d : Deed) → IsSafelyReclaimed l → ((v : Version) → dead l v ≡ true → dead m v ≡ true) → Makes l d m → IsSafelyReclaimed m
 safe_by l m d y dies resting = y
 safe_by l m d y dies (beginning {kind = kind} few more) = safe_moved l m y refl refl refl (omega arith) dies (λ _. y.trimmed_by, y.trims)
-safe_by l m d y dies (reading {h = h} {k = k} {n = n} t f inside room) = safe_moved l m y refl refl refl (omega arith) dies (trims_changed l h _ (call_keeps (Call.Read h k n)) y.trims)
+safe_by l m d y dies (reading {h = h} {k = k} {n = n} how t f inside room) = safe_moved l m y refl refl refl (omega arith) dies (trims_changed l h _ (call_keeps (Call.Read h k n)) y.trims)
 safe_by l m d y dies (setting {h = h} {k = k} {x = x} t f upd inside room) = safe_moved l m y refl refl refl (omega arith) dies (trims_changed l h _ (call_keeps (Call.Write h k x)) y.trims)
 safe_by l m d y dies (committing t f upd none_stale more room) = safe_installed l t y dies room
 safe_by l m d y dies (ending {h = h} t f) = safe_moved l m y refl refl refl (omega arith) dies (all_kept_by _ _ l.active y.trims)

@@ -9,7 +9,7 @@ use Rattle.ledger.specs.declared.Call.{Call}
 use Rattle.ledger.specs.declared.Range.{Range}
 use Rattle.ledger.specs.Ledger.{Transaction, Ledger, found, is_reader, value_below, newest_value, own_write}
 use Rattle.ledger.specs.Calls.{seen, granule_stamp, stale_read, read_keys, stamped, with_active, with_call, changed, fresh, opened as opening, installed, joins, joined, having_made, same_range, with_range}
-use Rattle.ledger.specs.History.{Operation, read_range, write_key}
+use Rattle.ledger.specs.History.{Showing, Sight, sight_of, Operation, read_range, write_key}
 use Rattle.ledger.specs.Serial.{Table, run, run_reads}
 use Rattle.ledger.specs.Orderly.{IsSound}
 use Rattle.ledger.proofs.SoundActives.{well_formed_found}
@@ -145,10 +145,10 @@ module _ (s : Story) (l : Ledger) (i : TellsStory s l) (k : Kind) (st : ℕ → 
   }
 
 -- the transaction g did a, and saw xs in it
-abbrev pub did : Story → ℕ → Operation → List (List ℕ) → Story
+abbrev pub did : Story → ℕ → Operation → List Sight → Story
 did s g a xs = record { operations = λ h. cond (eqb g h) (s.operations h ++ (a ∷ [])) (s.operations h); saw = λ h. cond (eqb g h) (s.saw h ++ xs) (s.saw h); stands = s.stands }
 
-module _ (s : Story) (l : Ledger) (i : TellsStory s l) (g : ℕ) (u : Transaction) (f : found l.active g ≡ Some u) (a : Operation) (xs : List (List ℕ)) (fn : Transaction → Transaction) (keeps : KeepsIdentity fn) where
+module _ (s : Story) (l : Ledger) (i : TellsStory s l) (g : ℕ) (u : Transaction) (f : found l.active g ≡ Some u) (a : Operation) (xs : List Sight) (fn : Transaction → Transaction) (keeps : KeepsIdentity fn) where
   abbrev done : Story
   done = did s g a xs
 
@@ -268,39 +268,39 @@ module _ (s : Story) (l : Ledger) (i : TellsStory s l) (g : ℕ) (u : Transactio
         none = λ r. cc;
       })
 
-  read_tab : (k n : ℕ) (xs : List (List ℕ)) (t : ℕ) → tab (did s g (read_range k n) xs) t ≡ tab s t
-  read_tab k n xs t = tab_same (did s g (read_range k n) xs) s t (λ m v le. go v (s.stands (suc m)))
+  read_tab : (k n : ℕ) (how : Showing) (xs : List Sight) (t : ℕ) → tab (did s g (read_range k n how) xs) t ≡ tab s t
+  read_tab k n how xs t = tab_same (did s g (read_range k n how) xs) s t (λ m v le. go v (s.stands (suc m)))
     where
-      go : (v : Table) (o : Option ℕ) → run (operations_at (did s g (read_range k n) xs) o) v ≡ run (operations_at s o) v
+      go : (v : Table) (o : Option ℕ) → run (operations_at (did s g (read_range k n how) xs) o) v ≡ run (operations_at s o) v
       go v None = refl
-      go v (Some h) = cond_both (eqb g h) (s.operations h ++ (read_range k n ∷ [])) (s.operations h) (λ ac. run ac v ≡ run (s.operations h) v) (λ _. run_push (s.operations h) (read_range k n) v) (λ _. refl)
+      go v (Some h) = cond_both (eqb g h) (s.operations h ++ (read_range k n how ∷ [])) (s.operations h) (λ ac. run ac v ≡ run (s.operations h) v) (λ _. run_push (s.operations h) (read_range k n how) v) (λ _. refl)
 
   -- what a reader sees is the table at its tick
-  read_placed : (k n t : ℕ) → s.stands (suc t) ≡ Some g → run_reads (s.operations g ++ (read_range k n ∷ [])) (tab s t) ≡ s.saw g ++ (map (seen l u) (range_with_len k n) ∷ [])
-  read_placed k n t e =
+  read_placed : (k n : ℕ) (how : Showing) (t : ℕ) → s.stands (suc t) ≡ Some g → run_reads (s.operations g ++ (read_range k n how ∷ [])) (tab s t) ≡ s.saw g ++ (sight_of how k (map (seen l u) (range_with_len k n)) ∷ [])
+  read_placed k n how t e =
       let p = i.placed t g e in
       let r = p.alone u f in
       let o = i.opened g u f in
       let le : t ≤ l.clock = omega (arith, stands_by s l i (suc t) g e) in
       let each : (j : ℕ) → run (s.operations g) (tab s t) j ≡ seen l u j = λ j.
       o.own (tab s t) j ∙ ap (λ ws. unwrap_or (own_write j ws) (tab s t j)) (o.none r.0) ∙ sym (i.value t j le) ∙ ap (λ x. value_below j x l.versions) (sym (found_start l.active g u f ∙ r.1)) ∙ ap (λ b. cond b (value_below j u.start l.versions) (unwrap_or (own_write j u.writes) (newest_value j l.versions))) (sym r.0) in
-      run_reads_push (s.operations g) (read_range k n) (tab s t) ∙ ap (λ ys. ys ++ (map (run (s.operations g) (tab s t)) (range_with_len k n) ∷ [])) p.same ∙ ap (λ ys. s.saw g ++ (ys ∷ [])) (map_all _ (seen l u) (range_with_len k n) (all_each _ each (range_with_len k n)))
+      run_reads_push (s.operations g) (read_range k n how) (tab s t) ∙ ap (λ ys. ys ++ (sight_of how k (map (run (s.operations g) (tab s t)) (range_with_len k n)) ∷ [])) p.same ∙ ap (λ ys. s.saw g ++ (sight_of how k ys ∷ [])) (map_all _ (seen l u) (range_with_len k n) (all_each _ each (range_with_len k n)))
 
-  pub inv_read : (k n : ℕ) → IsSound (with_call l g (Call.Read g k n)) → TellsStory (did s g (read_range k n) (map (seen l u) (range_with_len k n) ∷ [])) (with_call l g (Call.Read g k n))
-  inv_read k n fine =
+  pub inv_read : (k n : ℕ) (how : Showing) → IsSound (with_call l g (Call.Read g k n)) → TellsStory (did s g (read_range k n how) (sight_of how k (map (seen l u) (range_with_len k n)) ∷ [])) (with_call l g (Call.Read g k n))
+  inv_read k n how fine =
       let o = i.opened g u f in
-      let xs = map (seen l u) (range_with_len k n) ∷ [] in
+      let xs = sight_of how k (map (seen l u) (range_with_len k n)) ∷ [] in
       let fn : Transaction → Transaction = λ t. having_made t (Call.Read g k n) in
-      let mine = acts_mine s l i g u f (read_range k n) xs fn (call_keeps (Call.Read g k n)) in
+      let mine = acts_mine s l i g u f (read_range k n how) xs fn (call_keeps (Call.Read g k n)) in
       let kind : (joined u k n).kind ≡ u.kind = (call_keeps (Call.Read g k n)).kind u in
-      inv_did s l i g u f (read_range k n) xs fn (call_keeps (Call.Read g k n)) fine (read_tab k n xs) (read_placed k n)
+      inv_did s l i g u f (read_range k n how) xs fn (call_keeps (Call.Read g k n)) fine (read_tab k n how xs) (read_placed k n how)
       (record {
-        own = λ v j. ap (λ ac. run ac v j) mine ∙ ap (λ w. w j) (run_push (s.operations g) (read_range k n) v) ∙ o.own v j ∙ ap (λ ws. unwrap_or (own_write j ws) (v j)) (sym (joined_writes u k n));
+        own = λ v j. ap (λ ac. run ac v j) mine ∙ ap (λ w. w j) (run_push (s.operations g) (read_range k n how) v) ∙ o.own v j ∙ ap (λ ws. unwrap_or (own_write j ws) (v j)) (sym (joined_writes u k n));
         saw = λ r v al.
             let upd : is_reader u.kind ≡ false = ap is_reader (sym kind) ∙ r in
             let c = joined_covers (IsStill l g v) u k n upd al in
             let each : AllByRecursion (λ j. run (s.operations g) v j ≡ seen l u j) (range_with_len k n) = All-weaker (IsStill l g v) (λ j. run (s.operations g) v j ≡ seen l u j) (λ j q. o.own v j ∙ ap (unwrap_or (own_write j u.writes)) q.0 ∙ ap (λ b. cond b (value_below j u.start l.versions) (unwrap_or (own_write j u.writes) (newest_value j l.versions))) (sym upd)) (range_with_len k n) c.1 in
-            ap (λ ac. run_reads ac v) mine ∙ run_reads_push (s.operations g) (read_range k n) v ∙ ap (λ ys. ys ++ (map (run (s.operations g) v) (range_with_len k n) ∷ [])) (o.saw upd v c.0) ∙ ap (λ ys. s.saw g ++ (ys ∷ [])) (map_all _ (seen l u) (range_with_len k n) each) ∙ sym (saw_mine s l i g u f (read_range k n) xs fn (call_keeps (Call.Read g k n)));
+            ap (λ ac. run_reads ac v) mine ∙ run_reads_push (s.operations g) (read_range k n how) v ∙ ap (λ ys. ys ++ (sight_of how k (map (run (s.operations g) v) (range_with_len k n)) ∷ [])) (o.saw upd v c.0) ∙ ap (λ ys. s.saw g ++ (sight_of how k ys ∷ [])) (map_all _ (seen l u) (range_with_len k n) each) ∙ sym (saw_mine s l i g u f (read_range k n how) xs fn (call_keeps (Call.Read g k n)));
         none = λ r. joined_writes u k n ∙ o.none (ap is_reader (sym kind) ∙ r);
       })
 

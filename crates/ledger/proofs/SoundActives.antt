@@ -144,7 +144,7 @@ sound_made l m d s (beginning few more) = record {
   apart = (next_apart l.limits l.clock l.active s.fine, s.apart);
   few = few;
 }
-sound_made l m d s (reading {h = h} {k = k} {n = n} t f inside room) =
+sound_made l m d s (reading {h = h} {k = k} {n = n} how t f inside room) =
     sound_changed l h (λ u. having_made u (Call.Read h k n)) t (call_keeps (Call.Read h k n)) s f (well_formed_joined l.limits l.clock t k n (well_formed_found s h t f).0 inside room)
 sound_made l m d s (setting {h = h} {k = k} {x = x} t f upd inside room) =
     sound_changed l h (λ u. having_made u (Call.Write h k x)) t (call_keeps (Call.Write h k x)) s f (well_formed_wrote l.limits l.clock t k x (well_formed_found s h t f).0 upd inside room)

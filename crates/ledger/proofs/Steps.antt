@@ -1,22 +1,25 @@
 -- What a step makes of a ledger, by what was done: the inversion of the calls.
-use Rattle.std.proofs.Common.{◌≡◌, ℕ, ◌+◌, ◌-◌, ◌<◌, ◌≤◌, Bool, true, false, cond, not, ◌&&◌, ltb, leb, List, ◌++◌, map, length, take, drop, Some, None, Option, Result, sym, refl, subst}
+use Rattle.std.proofs.Common.{◌≡◌, ℕ, ◌+◌, ◌-◌, ◌<◌, ◌≤◌, Bool, true, false, cond, not, ◌&&◌, ltb, leb, List, ◌++◌, map, length, take, drop, Some, None, Ok, Err, Option, Result, sym, refl, ap, ◌∙◌, subst, le_of_eq}
 use Rattle.std.specs.List.{range_with_len}
 use Rattle.std.specs.Option.{is_some}
 use Rattle.std.specs.Result.{result_and}
 use Rattle.refusals.specs.Results.{result_map}
-use Rattle.std.proofs.lemmas.List.{take_at}
+use Rattle.ledger.specs.Figures.{figure_of}
+use Rattle.std.proofs.lemmas.List.{take_at, drop_all, append-nil, length-replicate}
 use Rattle.std.proofs.lemmas.List.FromFn.{length-map-range_with_len}
 use Rattle.std.proofs.lemmas.Bool.{leb-false, ltb-false, leb-true, not-false, le-ltb}
 use Rattle.ledger.specs.declared.TheConstants.{MAX_ACTIVE}
 use Rattle.ledger.specs.declared.Kind.{Kind}
 use Rattle.ledger.specs.declared.Kind.TheVariants.{Reader, Updater}
+use Rattle.ledger.specs.declared.SummaryKind.{SummaryKind}
 use Rattle.ledger.specs.declared.Fault.{Fault}
+use Rattle.ledger.specs.declared.Fault.TheVariants.{KeyOutside, ShortBuffer, NoTransaction, ReadListFull}
 use Rattle.ledger.specs.declared.Verdict.{Verdict}
 use Rattle.ledger.specs.declared.Call.{Call}
 use Rattle.ledger.specs.declared.Done.{Done}
 use Rattle.ledger.specs.Ledger.{Transaction, Ledger, Shortage, handle_of, found, is_reader, present_count, shortage}
-use Rattle.ledger.specs.Calls.{outcome, Outcome, Effect, accepted, StaleRead, maker, join_check, in_table, joins, read_list_full, write_list_full, out_of_ticks, opened, seen, with_call, begin_effect, read_effect, write_effect, abort_effect, reclaimed, stale_read, shortage_in, full_or_committed, verdict_after, left_by, is_judged, judged, commit_effect, ended, installed, step}
-use Rattle.ledger.specs.History.{Deed, begins, reads, sets, commits, ends, rests, commit_deed, deed_of}
+use Rattle.ledger.specs.Calls.{new_buffer, outcome, Outcome, Effect, accepted, StaleRead, maker, join_check, in_table, joins, read_list_full, write_list_full, out_of_ticks, opened, seen, with_call, begin_effect, read_effect, read_result, total_effect, total_result, write_effect, abort_effect, reclaimed, stale_read, shortage_in, full_or_committed, verdict_after, left_by, is_judged, judged, commit_effect, ended, installed, step}
+use Rattle.ledger.specs.History.{Showing, in_full, as_figure, seen_values, seen_figure, sight_of, Deed, begins, reads, sets, commits, ends, rests, commit_deed, deed_of}
 use Rattle.ledger.proofs.Actives.{found_start}
 
 -- the ledger as a deed finds it: as it stands, or reclaimed
@@ -28,7 +31,7 @@ pub data OrReclaimed (l : Ledger) : Ledger → Type 0 where
 pub data Makes (l : Ledger) : Deed → Ledger → Type 0 where
   resting : Makes l rests l
   beginning : {kind : Kind} → length l.active < MAX_ACTIVE → l.clock < l.limits.last → Makes l (begins kind (l.clock + 1)) (opened l kind)
-  reading : {h k n : ℕ} (t : Transaction) → found l.active h ≡ Some t → k + n ≤ l.limits.keys → (joins t n && read_list_full t.reads k n) ≡ false → Makes l (reads h k n (map (seen l t) (range_with_len k n))) (with_call l h (Call.Read h k n))
+  reading : {h k n : ℕ} (how : Showing) (t : Transaction) → found l.active h ≡ Some t → k + n ≤ l.limits.keys → (joins t n && read_list_full t.reads k n) ≡ false → Makes l (reads h k n how (sight_of how k (map (seen l t) (range_with_len k n)))) (with_call l h (Call.Read h k n))
   setting : {h k x : ℕ} (t : Transaction) → found l.active h ≡ Some t → is_reader t.kind ≡ false → k + 1 ≤ l.limits.keys → write_list_full t.writes k ≡ false → Makes l (sets h k x) (with_call l h (Call.Write h k x))
   committing : {h : ℕ} (t : Transaction) → found l.active h ≡ Some t → is_reader t.kind ≡ false → stale_read l t ≡ None → l.clock < l.limits.last → length t.writes ≤ l.limits.cells - present_count l → Makes l (commits h (l.clock + 1)) (installed l t)
   ending : {h : ℕ} (t : Transaction) → found l.active h ≡ Some t → Makes l (ends h) (ended l h)
@@ -60,15 +63,31 @@ tested P false y n = n refl
 front : (f : ℕ → ℕ) (k n : ℕ) (b : List ℕ) → take n (map f (range_with_len k n) ++ drop n b) ≡ map f (range_with_len k n)
 front f k n b = take_at (map f (range_with_len k n)) (drop n b) n (length-map-range_with_len f k n)
 
-course_read : (l : Ledger) (b : List ℕ) (h k n : ℕ) (o : Option Transaction) → found l.active h ≡ o → Goes l (Call.Read h k n) (checked l b (maker l.limits.keys (length b) h (Call.Read h k n) o) (read_effect l b h k n))
-course_read l b h k n None e = course as_is resting
-course_read l b h k n (Some t) e =
-    let G : Result (Unit {0}) Fault → Type 0 = λ r. Goes l (Call.Read h k n) (checked l b (result_map (λ _. t) r) (read_effect l b h k n)) in
-    let H : Result (Unit {0}) Fault → Type 0 = λ r. G (result_and r (join_check t k n)) in
-    tested H (not (in_table l.limits.keys k n)) (λ _. course as_is resting) (λ p.
-    tested H (ltb (length b) n) (λ _. course as_is resting) (λ q.
-    tested G (joins t n && read_list_full t.reads k n) (λ _. course as_is resting) (λ r.
-    subst (λ vs. Course l (reads h k n vs) (with_call l h (Call.Read h k n))) (sym (front (seen l t) k n b)) (course as_is (reading t e (leb-true _ _ (not-false _ p)) r)))))
+-- a read is refused, or it has its effect, by an active transaction whose read list has room
+pub read_way : (l : Ledger) (b : List ℕ) (h k n : ℕ) (P : Result Effect Fault → Type 0) → ((f : Fault) → P (Err f)) → ((t : Transaction) → found l.active h ≡ Some t → k + n ≤ l.limits.keys → (joins t n && read_list_full t.reads k n) ≡ false → P (Ok (read_effect l b h k n t))) → P (read_result l b h k n)
+read_way l b h k n P refused done = go (found l.active h) refl
+  where
+    go : (o : Option Transaction) → found l.active h ≡ o → P (result_map (read_effect l b h k n) (maker l.limits.keys (length b) h (Call.Read h k n) o))
+    go None e = refused (NoTransaction h)
+    go (Some t) e =
+        let G : Result (Unit {0}) Fault → Type 0 = λ r. P (result_map (read_effect l b h k n) (result_map (λ _. t) r)) in
+        let H : Result (Unit {0}) Fault → Type 0 = λ r. G (result_and r (join_check t k n)) in
+        tested H (not (in_table l.limits.keys k n)) (λ _. refused (KeyOutside k)) (λ p.
+        tested H (ltb (length b) n) (λ _. refused (ShortBuffer (length b))) (λ q.
+        tested G (joins t n && read_list_full t.reads k n) (λ _. refused (ReadListFull (handle_of t))) (λ r.
+        done t e (leb-true _ _ (not-false _ p)) r)))
+
+course_read : (l : Ledger) (b : List ℕ) (h k n : ℕ) → Goes l (Call.Read h k n) (outcome l b (read_result l b h k n))
+course_read l b h k n = read_way l b h k n (λ r. Goes l (Call.Read h k n) (outcome l b r)) (λ _. course as_is resting)
+    (λ t e inside room. subst (λ xs. Course l (reads h k n in_full (seen_values xs)) (with_call l h (Call.Read h k n))) (sym (front (seen l t) k n b)) (course as_is (reading in_full t e inside room)))
+
+-- a buffer of just so many places has nothing but the values
+pub filled : (f : ℕ → ℕ) (k n : ℕ) → map f (range_with_len k n) ++ drop n (new_buffer n) ≡ map f (range_with_len k n)
+filled f k n = ap (λ ys. map f (range_with_len k n) ++ ys) (drop_all n (new_buffer n) (le_of_eq (length-replicate n 0))) ∙ append-nil _
+
+course_total : (l : Ledger) (b : List ℕ) (h k n : ℕ) (s : SummaryKind) → Goes l (Call.Total h k n s) (outcome l b (total_result l b h k n s))
+course_total l b h k n s = read_way l (new_buffer n) h k n (λ r. Goes l (Call.Total h k n s) (outcome l b (result_map (total_effect b k s) r))) (λ _. course as_is resting)
+    (λ t e inside room. subst (λ xs. Course l (reads h k n (as_figure s) (seen_figure (figure_of s k xs))) (with_call l h (Call.Read h k n))) (sym (filled (seen l t) k n)) (course as_is (reading (as_figure s) t e inside room)))
 
 course_write : (l : Ledger) (b : List ℕ) (h k x : ℕ) (o : Option Transaction) → found l.active h ≡ o → Goes l (Call.Write h k x) (checked l b (maker l.limits.keys (length b) h (Call.Write h k x) o) (λ _. write_effect l b h k x))
 course_write l b h k x None e = course as_is resting
@@ -136,7 +155,8 @@ course_of l (Call.Begin kind) b =
     let G : Result (Unit {0}) Fault → Type 0 = λ r. Goes l (Call.Begin kind) (checked l b r (λ _. begin_effect l b kind)) in
     tested G (leb MAX_ACTIVE (length l.active)) (λ _. course as_is resting) (λ p.
     tested G (out_of_ticks l.clock l.limits.last) (λ _. course as_is resting) (λ q. course as_is (beginning (leb-false _ _ p) (leb-false _ _ q))))
-course_of l (Call.Read h k n) b = course_read l b h k n (found l.active h) refl
+course_of l (Call.Read h k n) b = course_read l b h k n
+course_of l (Call.Total h k n s) b = course_total l b h k n s
 course_of l (Call.Write h k x) b = course_write l b h k x (found l.active h) refl
 course_of l (Call.Commit h) b = course_commit l b h (found l.active h) refl
 course_of l (Call.Abort h) b = course_abort l b h (found l.active h) refl

@@ -7,13 +7,13 @@ use Rattle.std.proofs.lemmas.Bool.{ltb-false, le-ltb, lt-ltb, eqb-true, eqb-fals
 use Rattle.ledger.specs.declared.Write.{Write}
 use Rattle.ledger.specs.Ledger.{Version, value_below, newest_value, own_write, written}
 use Rattle.ledger.specs.Calls.{granule_stamp, stale_read_among, stamped}
-use Rattle.ledger.specs.History.{Operation}
+use Rattle.ledger.specs.History.{Sight, Operation}
 use Rattle.ledger.proofs.Presence.{stale_read_at}
-use Rattle.ledger.specs.Serial.{Table, applied, run, values_in, run_reads}
+use Rattle.ledger.specs.Serial.{Table, applied, run, sights_in, run_reads}
 
 pub record Story : Type 0 where
   pub operations : ℕ → List Operation
-  pub saw : ℕ → List (List ℕ)
+  pub saw : ℕ → List Sight
   pub stands : ℕ → Option ℕ
 
 abbrev pub operations_at : Story → Option ℕ → List Operation
@@ -29,9 +29,9 @@ pub run_push : (xs : List Operation) (a : Operation) (v : Table) → run (xs ++ 
 run_push [] a v = refl
 run_push (x ∷ xs) a v = run_push xs a (applied x v)
 
-pub run_reads_push : (xs : List Operation) (a : Operation) (v : Table) → run_reads (xs ++ (a ∷ [])) v ≡ run_reads xs v ++ values_in a (run xs v)
-run_reads_push [] a v = append-nil (values_in a v)
-run_reads_push (x ∷ xs) a v = ap (λ ys. values_in x v ++ ys) (run_reads_push xs a (applied x v)) ∙ sym (append_assoc (values_in x v) (run_reads xs (applied x v)) (values_in a (run xs (applied x v))))
+pub run_reads_push : (xs : List Operation) (a : Operation) (v : Table) → run_reads (xs ++ (a ∷ [])) v ≡ run_reads xs v ++ sights_in a (run xs v)
+run_reads_push [] a v = append-nil (sights_in a v)
+run_reads_push (x ∷ xs) a v = ap (λ ys. sights_in x v ++ ys) (run_reads_push xs a (applied x v)) ∙ sym (append_assoc (sights_in x v) (run_reads xs (applied x v)) (sights_in a (run xs (applied x v))))
 
 -- tables of two stories that do the same at each tick up to t
 pub tab_same : (s z : Story) (t : ℕ) → ((n : ℕ) (v : Table) → suc n ≤ t → run (operations_at s (s.stands (suc n))) v ≡ run (operations_at z (z.stands (suc n))) v) → tab s t ≡ tab z t

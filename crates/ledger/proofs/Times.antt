@@ -27,7 +27,7 @@ told_by P back {l = l} f (course after_reclaim makes) = back l (f (reclaimed l) 
 draws_made : (l m : Ledger) (d : Deed) → Makes l d m → ticks_in d ++ down_from l.clock ≡ down_from m.clock
 draws_made l m d resting = refl
 draws_made l m d (beginning few more) = rw add-one
-draws_made l m d (reading t f inside room) = refl
+draws_made l m d (reading how t f inside room) = refl
 draws_made l m d (setting t f upd inside room) = refl
 draws_made l m d (committing t f upd none_stale more room) = rw add-one
 draws_made l m d (ending t f) = refl
@@ -51,7 +51,7 @@ begins_next {m = m} {d = d} c h e = told_by (λ k. k.clock + 1 ≡ h) (λ l q. q
     next : (k m : Ledger) (d : Deed) → Makes k d m → is_begin_of h d ≡ true → k.clock + 1 ≡ h
     next k m d resting q = cc
     next k m d (beginning few more) q = eqb-true _ h q
-    next k m d (reading t f inside room) q = cc
+    next k m d (reading how t f inside room) q = cc
     next k m d (setting t f upd inside room) q = cc
     next k m d (committing t f upd none_stale more room) q = cc
     next k m d (ending t f) q = cc
@@ -65,7 +65,7 @@ IsGone g l = (found l.active g ≡ None) × (g ≤ l.clock)
 gone_made : (g : ℕ) (l m : Ledger) (d : Deed) → IsGone g l → Makes l d m → IsGone g m
 gone_made g l m d x resting = x
 gone_made g l m d x (beginning few more) = (rw (ne_eqb (l.clock + 1) g (λ e. omega (arith, x.1))) x.0, omega (arith, x.1))
-gone_made g l m d x (reading {h = h} {k = k} {n = n} t f inside room) = (none_changed l.active h _ (call_keeps (Call.Read h k n)) g x.0, x.1)
+gone_made g l m d x (reading {h = h} {k = k} {n = n} how t f inside room) = (none_changed l.active h _ (call_keeps (Call.Read h k n)) g x.0, x.1)
 gone_made g l m d x (setting {h = h} {k = k} {x = v} t f upd inside room) = (none_changed l.active h _ (call_keeps (Call.Write h k v)) g x.0, x.1)
 gone_made g l m d x (committing t f upd none_stale more room) = (none_kept _ l.active g x.0, omega (arith, x.1))
 gone_made g l m d x (ending t f) = (none_kept _ l.active g x.0, x.1)
@@ -87,7 +87,7 @@ standings_made l m d s (beginning {kind = Reader} few more) = λ p e.
     let i : here ≡ p = some_same here p (Some here) refl e in
     (omega (arith, ap (λ x. x.tick) i, ap (λ x. x.handle) i), sym (ap (λ x. x.tick) i), λ x. omega (arith, x.1, ap (λ x. x.handle) i))
 standings_made l m d s (beginning {kind = Updater} few more) = standings_none l
-standings_made l m d s (reading t f inside room) = standings_none l
+standings_made l m d s (reading how t f inside room) = standings_none l
 standings_made l m d s (setting t f upd inside room) = standings_none l
 standings_made l m d s (committing {h = g} u f upd none_stale more room) = λ p e.
     let here : Standing = record { tick = l.clock + 1; handle = g } in
@@ -152,7 +152,7 @@ ended_gone l ts h g t s f e =
 ends_made : (g : ℕ) (l m : Ledger) (d : Deed) → IsSound l → Makes l d m → is_end_of g d ≡ true → IsGone g m
 ends_made g l m d s resting e = cc
 ends_made g l m d s (beginning few more) e = cc
-ends_made g l m d s (reading t f inside room) e = cc
+ends_made g l m d s (reading how t f inside room) e = cc
 ends_made g l m d s (setting t f upd inside room) e = cc
 ends_made g l m d s (committing {h = h} t f upd none_stale more room) e =
     let x = ended_gone l l.active h g t s f (eqb-true h g e) in

@@ -160,7 +160,7 @@ pub record KeepsPast (k t : ℕ) (l m : Ledger) : Type 0 where
 past_made : (k t : ℕ) (l j m : Ledger) (d : Deed) → t ≤ l.clock + 1 → KeepsPast k t l j → Makes j d m → KeepsPast k t l m
 past_made k t l j m d le p resting = p
 past_made k t l j m d le p (beginning few more) = record { clock = omega (arith, p.clock); below = p.below }
-past_made k t l j m d le p (reading u f inside room) = record { clock = p.clock; below = p.below }
+past_made k t l j m d le p (reading how u f inside room) = record { clock = p.clock; below = p.below }
 past_made k t l j m d le p (setting u f upd inside room) = record { clock = p.clock; below = p.below }
 past_made k t l j m d le p (committing u f upd none_stale more room) = record { clock = omega (arith, p.clock); below = below_before k (j.clock + 1) t u.writes j.versions (omega (arith, p.clock)) ∙ p.below }
 past_made k t l j m d le p (ending u f) = record { clock = p.clock; below = p.below }

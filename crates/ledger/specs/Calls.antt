@@ -1,5 +1,5 @@
 -- The calls on the ledger: why each is refused, and what an accepted one answers, leaves in the caller's buffer, and makes of the ledger.
-use Rattle.std.specs.Prelude.{ℕ, ◌+◌, max, Bool, true, false, if◌then◌else◌, not, ◌&&◌, List, [], ◌∷◌, ◌++◌, map, length, drop, Some, None, filter, Option, Ok, Err, Result, ◌==◌, nat_le, nat_lt}
+use Rattle.std.specs.Prelude.{ℕ, ◌+◌, max, Bool, true, false, if◌then◌else◌, not, ◌&&◌, List, [], ◌∷◌, ◌++◌, map, length, drop, replicate, Some, None, filter, Option, Ok, Err, Result, ◌==◌, nat_le, nat_lt}
 use Rattle.std.specs.List.{find, list_any, range_with_len}
 use Rattle.std.specs.Option.{is_some, option_map, unwrap_or}
 use Rattle.std.specs.Result.{result_and}
@@ -13,8 +13,10 @@ use Rattle.ledger.specs.declared.Fault.{Fault}
 use Rattle.ledger.specs.declared.Fault.TheVariants.{KeyOutside, ShortBuffer, NoTransaction, ReaderWrites, TooManyActive, ClockSpent, ReadListFull, WriteListFull}
 use Rattle.ledger.specs.declared.Verdict.{Verdict}
 use Rattle.ledger.specs.declared.Verdict.TheVariants.{Closed, Restart, Spent, Full, Committed}
+use Rattle.ledger.specs.declared.SummaryKind.{SummaryKind}
 use Rattle.ledger.specs.declared.Call.{Call}
 use Rattle.ledger.specs.declared.Done.{Done}
+use Rattle.ledger.specs.Figures.{figure_of}
 use Rattle.ledger.specs.Ledger.{Transaction, Version, Ledger, Shortage, handle_of, moment_of, found, is_reader, trim_tick, dead, present_count, dead_count, shortage, value_below, newest_value, own_write, written}
 
 -- Outcomes
@@ -80,6 +82,7 @@ wrote t k x = record t { writes = written t.writes k x }
 -- the transaction once it has made a call
 abbrev pub having_made : Transaction → Call → Transaction
 having_made t (Call.Read h k n) = joined t k n
+having_made t (Call.Total h k n s) = joined t k n
 having_made t (Call.Write h k x) = wrote t k x
 having_made t _ = t
 
@@ -131,9 +134,10 @@ write_check keys t k =
     else if write_list_full t.writes k then Err (WriteListFull (handle_of t))
     else Ok tt
 
--- a call by the transaction t; it may always commit or abort
+-- a call by the transaction t; it may always commit or abort, and for a total there is room
 abbrev pub transaction_check : ℕ → ℕ → Transaction → Call → Result (Unit {0}) Fault
 transaction_check keys room t (Call.Read h k n) = read_check keys room t k n
+transaction_check keys room t (Call.Total h k n s) = read_check keys n t k n
 transaction_check keys room t (Call.Write h k x) = write_check keys t k
 transaction_check keys room t _ = Ok tt
 
@@ -141,6 +145,10 @@ transaction_check keys room t _ = Ok tt
 abbrev pub maker : ℕ → ℕ → ℕ → Call → Option Transaction → Result Transaction Fault
 maker keys room h c None = Err (NoTransaction h)
 maker keys room h c (Some t) = result_map (λ _. t) (transaction_check keys room t c)
+
+-- the check of a call under the handle h
+abbrev pub by_handle : Ledger → List ℕ → ℕ → Call → Result Transaction Fault
+by_handle l b h c = maker l.limits.keys (length b) h c (found l.active h)
 
 -- Begin
 
@@ -175,6 +183,24 @@ read_effect l b h k n t = record {
   buffer = map (seen l t) (range_with_len k n) ++ drop n b;
   ledger = with_call l h (Call.Read h k n);
 }
+
+-- a read under the handle h: refused by its check, or it has its effect
+abbrev pub read_result : Ledger → List ℕ → ℕ → ℕ → ℕ → Result Effect Fault
+read_result l b h k n = result_map (read_effect l b h k n) (by_handle l b h (Call.Read h k n))
+
+-- Total
+
+-- what a read did, told as one figure of the values that it gave; the caller's buffer is left alone
+abbrev pub total_effect : List ℕ → ℕ → SummaryKind → Effect → Effect
+total_effect b k s e = record { done = Done.Total (figure_of s k e.buffer); buffer = b; ledger = e.ledger }
+
+-- a buffer of so many places
+abbrev pub new_buffer : ℕ → List ℕ
+new_buffer n = replicate n 0
+
+-- as a read of the range into a buffer of just so many places
+abbrev pub total_result : Ledger → List ℕ → ℕ → ℕ → ℕ → SummaryKind → Result Effect Fault
+total_result l b h k n s = result_map (total_effect b k s) (read_result l (new_buffer n) h k n)
 
 -- Write
 
@@ -284,14 +310,11 @@ abort_effect l b h = record { done = Done.Aborted; buffer = b; ledger = ended l 
 
 -- Any call
 
--- the check of a call under the handle h
-abbrev pub by_handle : Ledger → List ℕ → ℕ → Call → Result Transaction Fault
-by_handle l b h c = maker l.limits.keys (length b) h c (found l.active h)
-
 -- each call: what it does once its check is passed
 abbrev pub effect_of : Ledger → Call → List ℕ → Result Effect Fault
 effect_of l (Call.Begin kind) b = result_map (λ _. begin_effect l b kind) (begin_check (length l.active) l.clock l.limits.last)
-effect_of l (Call.Read h k n) b = result_map (read_effect l b h k n) (by_handle l b h (Call.Read h k n))
+effect_of l (Call.Read h k n) b = read_result l b h k n
+effect_of l (Call.Total h k n s) b = total_result l b h k n s
 effect_of l (Call.Write h k x) b = result_map (λ _. write_effect l b h k x) (by_handle l b h (Call.Write h k x))
 effect_of l (Call.Commit h) b = result_map (commit_effect l b h) (by_handle l b h (Call.Commit h))
 effect_of l (Call.Abort h) b = result_map (λ _. abort_effect l b h) (by_handle l b h (Call.Abort h))

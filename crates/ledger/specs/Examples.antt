@@ -1,10 +1,12 @@
 -- Worked examples of the calls, as a club's engine answers them.
-use Rattle.std.specs.Prelude.{◌≡◌, ℕ, zero, suc, ◌+◌, ◌-◌, ◌/◌, List, [], ◌∷◌, Ok, Err, Result}
+use Rattle.std.specs.Prelude.{◌≡◌, ℕ, zero, suc, ◌+◌, ◌-◌, ◌/◌, List, [], ◌∷◌, Some, None, Ok, Err, Result}
 use Rattle.ledger.specs.declared.TheConstants.{MAX_ACTIVE, MAX_READS, MAX_WRITES}
 use Rattle.ledger.specs.declared.Kind.TheVariants.{Reader, Updater}
 use Rattle.ledger.specs.declared.Fault.{Fault}
 use Rattle.ledger.specs.declared.Fault.TheVariants.{KeyOutside, ShortBuffer, NoTransaction, ReaderWrites, TooManyActive, ClockSpent, ReadListFull, WriteListFull}
 use Rattle.ledger.specs.declared.Verdict.TheVariants.{Closed, Restart, Spent, Full, Committed}
+use Rattle.ledger.specs.declared.SummaryKind.TheVariants.{Sum, Smallest, NonZero}
+use Rattle.ledger.specs.declared.Figure.{Figure}
 use Rattle.ledger.specs.declared.Call.{Call}
 use Rattle.ledger.specs.declared.Done.{Done}
 use Rattle.ledger.specs.Ledger.{Ledger, new_ledger, no_limits}
@@ -28,9 +30,13 @@ club cells last = new_ledger (record { keys = 64; cells = cells; last = last; gr
 abbrev pub coarse : Ledger
 coarse = new_ledger (record { keys = 64; cells = 256; last = 4294967294; granule = λ k. k / 4 })
 
--- an updater that begins at the tick s writes x to key 0 and is committed at c
-abbrev pub value_committed : ℕ → ℕ → ℕ → List Made → List Made
-value_committed s x c more = unlent (Call.Begin Updater) (Ok (Done.Began s)) ∷ unlent (Call.Write s 0 x) (Ok Done.Wrote) ∷ unlent (Call.Commit s) (Ok (Done.Ended (Committed c))) ∷ more
+-- the smallest value, with its key
+abbrev pub least : ℕ → ℕ → Figure
+least k x = Figure.Smallest (Some (record { key = k; value = x }))
+
+-- an updater that begins at the tick s writes x to the key k and is committed at c
+abbrev pub value_committed : ℕ → ℕ → ℕ → ℕ → List Made → List Made
+value_committed k s x c more = unlent (Call.Begin Updater) (Ok (Done.Began s)) ∷ unlent (Call.Write s k x) (Ok Done.Wrote) ∷ unlent (Call.Commit s) (Ok (Done.Ended (Committed c))) ∷ more
 
 -- so many readers begin at the ticks from s on
 abbrev pub readers_begin : ℕ → ℕ → List Made → List Made
@@ -85,14 +91,14 @@ one_cell =
 
 -- two cells; without a reader the version before the last is dead, and its cell is had by a reclaim
 abbrev pub reclaims_first : List Made
-reclaims_first = value_committed 1 21 2 (value_committed 3 22 4 (value_committed 5 23 6 []))
+reclaims_first = value_committed 0 1 21 2 (value_committed 0 3 22 4 (value_committed 0 5 23 6 []))
 
 -- two cells; a reader that began between two versions keeps both
 abbrev pub reader_keeps : List Made
 reader_keeps =
-    value_committed 1 21 2
+    value_committed 0 1 21 2
     (unlent (Call.Begin Reader) (Ok (Done.Began 3))
-    ∷ value_committed 4 22 5
+    ∷ value_committed 0 4 22 5
     (unlent (Call.Begin Updater) (Ok (Done.Began 6))
     ∷ unlent (Call.Write 6 0 23) (Ok Done.Wrote)
     ∷ unlent (Call.Commit 6) (Ok (Done.Ended (Full 1 0)))
@@ -123,12 +129,49 @@ read_nothing =
 -- an updater sees its own write; a read of what was committed before it began is not stale
 abbrev pub own_write_seen : List Made
 own_write_seen =
-    value_committed 1 21 2
+    value_committed 0 1 21 2
     (unlent (Call.Begin Updater) (Ok (Done.Began 3))
     ∷ call_made (Call.Read 3 0 1) (9 ∷ []) (Ok (Done.Read 1)) (21 ∷ [])
     ∷ unlent (Call.Write 3 0 22) (Ok Done.Wrote)
     ∷ call_made (Call.Read 3 0 1) (9 ∷ []) (Ok (Done.Read 1)) (22 ∷ [])
     ∷ unlent (Call.Commit 3) (Ok (Done.Ended (Committed 4)))
+    ∷ [])
+
+-- one figure of a run of rounds: the sum goes round at 2^64, the lowest of equal keys is named, a key never written counts with its 0
+abbrev pub totals : List Made
+totals =
+    unlent (Call.Begin Updater) (Ok (Done.Began 1))
+    ∷ unlent (Call.Write 1 0 18446744073709551615) (Ok Done.Wrote)
+    ∷ unlent (Call.Write 1 2 2) (Ok Done.Wrote)
+    ∷ unlent (Call.Write 1 3 2) (Ok Done.Wrote)
+    ∷ unlent (Call.Total 1 0 4 Sum) (Ok (Done.Total (Figure.Sum 3)))
+    ∷ unlent (Call.Total 1 2 2 Smallest) (Ok (Done.Total (least 2 2)))
+    ∷ unlent (Call.Total 1 0 4 Smallest) (Ok (Done.Total (least 1 0)))
+    ∷ call_made (Call.Total 1 0 4 NonZero) (9 ∷ []) (Ok (Done.Total (Figure.NonZero 3))) (9 ∷ [])
+    ∷ unlent (Call.Begin Reader) (Ok (Done.Began 2))
+    ∷ unlent (Call.Commit 1) (Ok (Done.Ended (Committed 3)))
+    ∷ unlent (Call.Total 2 0 4 NonZero) (Ok (Done.Total (Figure.NonZero 0)))
+    ∷ unlent (Call.Total 2 64 0 Smallest) (Ok (Done.Total (Figure.Smallest None)))
+    ∷ call_made (Call.Total 2 64 1 Sum) (9 ∷ []) (Err (KeyOutside 64)) (9 ∷ [])
+    ∷ unlent (Call.Total 1 0 4 Sum) (Err (NoTransaction 1))
+    ∷ []
+
+-- updater 1 totals two keys of which another then writes the second
+abbrev pub total_overwritten : List Made
+total_overwritten =
+    unlent (Call.Begin Updater) (Ok (Done.Began 1))
+    ∷ unlent (Call.Total 1 0 2 Sum) (Ok (Done.Total (Figure.Sum 0)))
+    ∷ value_committed 1 2 7 3
+    (unlent (Call.Commit 1) (Ok (Done.Ended (Restart 1 3)))
+    ∷ [])
+
+-- a total of no keys does not clash
+abbrev pub total_of_none : List Made
+total_of_none =
+    unlent (Call.Begin Updater) (Ok (Done.Began 1))
+    ∷ unlent (Call.Total 1 1 0 Sum) (Ok (Done.Total (Figure.Sum 0)))
+    ∷ value_committed 1 2 7 3
+    (unlent (Call.Commit 1) (Ok (Done.Ended (Committed 4)))
     ∷ [])
 
 -- as many are active as may be
@@ -141,6 +184,9 @@ full_read_list =
     unlent (Call.Begin Updater) (Ok (Done.Began 1))
     ∷ ranges_read MAX_READS 0
     (call_made (Call.Read 1 MAX_READS 1) (9 ∷ []) (Err (ReadListFull 1)) (9 ∷ [])
+    ∷ unlent (Call.Total 1 MAX_READS 1 Sum) (Err (ReadListFull 1))
+    ∷ unlent (Call.Total 1 (MAX_READS - 1) 1 Smallest) (Ok (Done.Total (least (MAX_READS - 1) 0)))
+    ∷ unlent (Call.Total 1 40 0 Sum) (Ok (Done.Total (Figure.Sum 0)))
     ∷ ranges_read 1 (MAX_READS - 1) (unlent (Call.Read 1 40 0) (Ok (Done.Read 0)) ∷ []))
 
 -- a full write list takes no other key; one that is there gets its new value
@@ -166,6 +212,7 @@ abbrev pub set_up_wrongly : List Made
 set_up_wrongly =
     unlent (Call.Begin Reader) (Err (ClockSpent 0))
     ∷ unlent (Call.Read 1 0 0) (Err (NoTransaction 1))
+    ∷ unlent (Call.Total 1 0 0 Sum) (Err (NoTransaction 1))
     ∷ unlent Call.Reclaim (Ok (Done.Reclaimed 0))
     ∷ []
 
@@ -181,6 +228,9 @@ pub record Examples : Type 0 where
   pub far : Plays coarse (meanwhile 4 (Ok (Done.Ended (Committed 4))))
   pub blind : Plays (club 256 9) read_nothing
   pub later : Plays (club 256 9) own_write_seen
+  pub totalled : Plays (club 256 9) totals
+  pub total_clashes : Plays (club 256 9) total_overwritten
+  pub none_does_not_clash : Plays (club 256 9) total_of_none
   pub all_active : Plays (club 256 99) most_active
   pub browsed : Plays (club 256 99) full_read_list
   pub filled : Plays (club 256 99) full_write_list

@@ -4,9 +4,12 @@ use Rattle.ledger.specs.declared.Kind.{Kind}
 use Rattle.ledger.specs.declared.Kind.TheVariants.{Reader, Updater}
 use Rattle.ledger.specs.declared.Fault.{Fault}
 use Rattle.ledger.specs.declared.Verdict.TheVariants.{Committed}
+use Rattle.ledger.specs.declared.SummaryKind.{SummaryKind}
+use Rattle.ledger.specs.declared.Figure.{Figure}
 use Rattle.ledger.specs.declared.Call.{Call}
 use Rattle.ledger.specs.declared.Done.{Done}
 use Rattle.ledger.specs.Ledger.{Limits, Ledger, new_ledger, start_of}
+use Rattle.ledger.specs.Figures.{figure_of}
 use Rattle.ledger.specs.Calls.{step}
 
 -- one call made: the caller's buffer before it, its answer, and the buffer after it
@@ -37,12 +40,27 @@ IsTold n (m ∷ ms) = (m.answer ≡ (step (after n ms) m.call m.given).answer) �
 
 -- What a call did
 
+-- how a range is shown: each of its values, or one figure of them
+pub data Showing : Type 0 where
+  in_full : Showing
+  as_figure : SummaryKind → Showing
+
+-- what is seen of a range
+pub data Sight : Type 0 where
+  seen_values : List ℕ → Sight
+  seen_figure : Figure → Sight
+
+-- what is seen of these values, which stand at the keys k, k + 1, ..
+abbrev pub sight_of : Showing → ℕ → List ℕ → Sight
+sight_of in_full k xs = seen_values xs
+sight_of (as_figure s) k xs = seen_figure (figure_of s k xs)
+
 -- what is done by a call
 pub data Deed : Type 0 where
   -- a transaction of this kind began, with this handle
   begins : Kind → ℕ → Deed
-  -- the transaction with this handle read a range of keys, its first and how many, and saw these values
-  reads : ℕ → ℕ → ℕ → List ℕ → Deed
+  -- the transaction with this handle read a range of keys, its first and how many, was shown it so, and saw this
+  reads : ℕ → ℕ → ℕ → Showing → Sight → Deed
   -- the transaction with this handle set a key to a value
   sets : ℕ → ℕ → ℕ → Deed
   -- the updater with this handle was committed at this tick
@@ -56,6 +74,11 @@ abbrev pub begin_deed : Kind → Done → Deed
 begin_deed kind (Done.Began h) = begins kind h
 begin_deed kind _ = rests
 
+-- a total is a read that sees a figure
+abbrev pub total_deed : ℕ → ℕ → ℕ → SummaryKind → Done → Deed
+total_deed h k n s (Done.Total f) = reads h k n (as_figure s) (seen_figure f)
+total_deed h k n s _ = rests
+
 abbrev pub commit_deed : ℕ → Done → Deed
 commit_deed h (Done.Ended (Committed t)) = commits h t
 commit_deed h _ = ends h
@@ -63,7 +86,8 @@ commit_deed h _ = ends h
 -- what an accepted call did, with what it left in the buffer
 abbrev pub accepted_deed : Call → Done → List ℕ → Deed
 accepted_deed (Call.Begin kind) d b = begin_deed kind d
-accepted_deed (Call.Read h k n) d b = reads h k n (take n b)
+accepted_deed (Call.Read h k n) d b = reads h k n in_full (seen_values (take n b))
+accepted_deed (Call.Total h k n s) d b = total_deed h k n s d
 accepted_deed (Call.Write h k x) d b = sets h k x
 accepted_deed (Call.Commit h) d b = commit_deed h d
 accepted_deed (Call.Abort h) d b = ends h
@@ -79,9 +103,9 @@ deed m = deed_of m.call m.answer m.left
 
 -- What a transaction did and saw
 
--- a read of a range of keys, or a write
+-- a read of a range of keys, shown so, or a write
 pub data Operation : Type 0 where
-  read_range : ℕ → ℕ → Operation
+  read_range : ℕ → ℕ → Showing → Operation
   write_key : ℕ → ℕ → Operation
 
 -- the one thing where the test holds, and else nothing
@@ -90,7 +114,7 @@ when b x = if b then x ∷ [] else []
 
 -- the operation of the transaction with this handle that a deed is
 abbrev pub operation_in : ℕ → Deed → List Operation
-operation_in h (reads g k n vs) = when (g == h) (read_range k n)
+operation_in h (reads g k n how what) = when (g == h) (read_range k n how)
 operation_in h (sets g k x) = when (g == h) (write_key k x)
 operation_in h _ = []
 
@@ -100,12 +124,12 @@ operations h [] = []
 operations h (m ∷ ms) = operations h ms ++ operation_in h (deed m)
 
 -- what the transaction with this handle saw by a deed
-abbrev pub seen_in : ℕ → Deed → List (List ℕ)
-seen_in h (reads g k n vs) = when (g == h) vs
+abbrev pub seen_in : ℕ → Deed → List Sight
+seen_in h (reads g k n how what) = when (g == h) what
 seen_in h _ = []
 
--- the values that its reads left in its callers' buffers, in call order
-abbrev pub saw : ℕ → List Made → List (List ℕ)
+-- what its reads and totals showed its callers, in call order
+abbrev pub saw : ℕ → List Made → List Sight
 saw h [] = []
 saw h (m ∷ ms) = saw h ms ++ seen_in h (deed m)
 

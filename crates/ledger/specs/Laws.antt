@@ -1,15 +1,19 @@
 -- The laws: what the calls mean for those who make them.
-use Rattle.std.specs.Prelude.{◌≡◌, ℕ, zero, suc, ◌+◌, ◌-◌, ◌<◌, ◌≤◌, true, false, if◌then◌else◌, ◌&&◌, ◌||◌, List, [], ◌∷◌, ◌++◌, map, length, drop, Some, None, Option, Ok, Err, Result, ◌==◌, ◌≢◌, nat_lt}
+use Rattle.std.specs.Prelude.{◌≡◌, ℕ, zero, suc, ◌+◌, ◌-◌, ◌<◌, ◌≤◌, true, false, if◌then◌else◌, not, ◌&&◌, ◌||◌, List, [], ◌∷◌, ◌++◌, map, length, drop, Some, None, Option, Ok, Err, Result, ◌==◌, ◌≢◌, nat_lt}
 use Rattle.std.specs.List.{range_with_len}
 use Rattle.std.specs.Option.{is_some}
 use Rattle.std.specs.Result.{is_ok}
+use Rattle.ledger.specs.declared.SummaryKind.{SummaryKind}
+use Rattle.ledger.specs.declared.SummaryKind.TheVariants.{Sum, Smallest, NonZero}
+use Rattle.ledger.specs.declared.Figure.{Figure}
 use Rattle.ledger.specs.declared.Call.{Call}
 use Rattle.ledger.specs.declared.Fault.{Fault}
-use Rattle.ledger.specs.declared.Fault.TheVariants.{NoTransaction, ClockSpent}
+use Rattle.ledger.specs.declared.Fault.TheVariants.{KeyOutside, NoTransaction, ClockSpent, ReadListFull}
 use Rattle.ledger.specs.declared.Verdict.TheVariants.{Restart}
 use Rattle.ledger.specs.declared.Done.{Done}
-use Rattle.ledger.specs.Ledger.{Limits, Transaction, Version, Ledger, Shortage, start_of, found, is_reader, dead, live_count, shortage, newest_value}
-use Rattle.ledger.specs.Calls.{step, reclaimed, stale_read, out_of_ticks}
+use Rattle.ledger.specs.Ledger.{Limits, Transaction, Version, Ledger, Shortage, start_of, handle_of, found, is_reader, dead, live_count, shortage, newest_value}
+use Rattle.ledger.specs.Figures.{figure_of}
+use Rattle.ledger.specs.Calls.{step, new_buffer, in_table, joins, read_list_full, seen, reclaimed, stale_read, out_of_ticks}
 use Rattle.ledger.specs.Reach.{IsReached}
 use Rattle.ledger.specs.Orderly.{IsOrderly}
 use Rattle.ledger.specs.History.{Made, call_made, Deed, begins, commits, deed, after, IsTold, operations, saw, is_begin_of, is_end_of, updater_in, standing_in, stands_at, others, asked}
@@ -18,13 +22,13 @@ use Rattle.ledger.specs.Restarts.{keys_read, first_overwritten, restart_of, full
 
 -- Over a history
 
--- Serial: every transaction in the order reads what it would read running alone in its place, and newest is what they leave.
+-- Serial: every transaction in the order sees what it would see running alone in its place, and newest is what they leave.
 pub record IsSerial (n : Limits) (ms : List Made) (newest : ℕ → ℕ) : Type 0 where
   -- who is given a standing at a tick stands there, and no one stands elsewhere
   pub stands : (newer older : List Made) (m : Made) (t h : ℕ)
       → ms ≡ newer ++ (m ∷ older) → standing_in (deed m) ≡ Some (record { tick = t; handle = h }) → stands_at ms t ≡ Some h
   pub within : (t h : ℕ) → stands_at ms t ≡ Some h → (0 < t) × (t ≤ (after n ms).clock)
-  -- run on the table as the ticks before leave it, its reads give what they left in the callers' buffers
+  -- run on the table as the ticks before leave it, its reads and totals see what they showed their callers
   pub reads : (t h : ℕ) → stands_at ms (suc t) ≡ Some h → run_reads (operations h ms) (table ms t) ≡ saw h ms
   -- after the last tick the table has each key's newest value
   pub newest_is : (k : ℕ) → k < n.keys → newest k ≡ table ms (after n ms).clock k
@@ -128,6 +132,57 @@ MomentLaw = (n : Limits) (ms : List Made) (h k c : ℕ) (b b' : List ℕ)
     → IsTold n (read_now h k c b b' ∷ ms) → updater_in h ms ≡ false
     → b' ≡ map (table ms (start_of h - 1)) (range_with_len k c) ++ drop c b
 
+-- an accepted total under a handle
+abbrev pub total_now : ℕ → ℕ → ℕ → SummaryKind → Figure → List ℕ → List ℕ → Made
+total_now h k c s f b b' = call_made (Call.Total h k c s) b (Ok (Done.Total f)) b'
+
+-- and every figure that it is told is a figure of that table
+abbrev pub FigureMomentLaw : Type 0
+FigureMomentLaw = (n : Limits) (ms : List Made) (h k c : ℕ) (s : SummaryKind) (f : Figure) (b b' : List ℕ)
+    → IsTold n (total_now h k c s f b b' ∷ ms) → updater_in h ms ≡ false
+    → f ≡ figure_of s k (map (table ms (start_of h - 1)) (range_with_len k c))
+
+-- Totals
+
+-- the answer that is a figure of a range under the handle h, where o has that handle: refused where no one has, where the range is not in the table, and where a full read list lacks it, in this order; else the figure of the values that the transaction sees
+abbrev pub total_answer : {X : Type 0} → (List ℕ → X) → Ledger → ℕ → ℕ → ℕ → Option Transaction → Result X Fault
+total_answer figure l h k c None = Err (NoTransaction h)
+total_answer figure l h k c (Some t) =
+    if not (in_table l.limits.keys k c) then Err (KeyOutside k)
+    else if joins t c && read_list_full t.reads k c then Err (ReadListFull (handle_of t))
+    else Ok (figure (map (seen l t) (range_with_len k c)))
+
+-- a total leaves the buffer as it was, and the ledger as a read of its range leaves it
+pub record IsTotal (l : Ledger) (h k c : ℕ) (s : SummaryKind) (b : List ℕ) : Type 0 where
+  pub answer : (step l (Call.Total h k c s) b).answer ≡ total_answer (λ xs. Done.Total (figure_of s k xs)) l h k c (found l.active h)
+  pub buffer : (step l (Call.Total h k c s) b).buffer ≡ b
+  pub ledger : (step l (Call.Total h k c s) b).ledger ≡ (step l (Call.Read h k c) (new_buffer c)).ledger
+
+-- every total is so
+abbrev pub TotalLaw : Type 0
+TotalLaw = (l : Ledger) (h k c : ℕ) (s : SummaryKind) (b : List ℕ) → IsTotal l h k c s b
+
+-- the figure of no values
+abbrev pub neutral_figure : SummaryKind → Figure
+neutral_figure Sum = Figure.Sum 0
+neutral_figure Smallest = Figure.Smallest None
+neutral_figure NonZero = Figure.NonZero 0
+
+-- a total of no keys from a key of the table, or just behind the last, is accepted under every handle, with the neutral figure
+abbrev pub AcceptsNoKeys : Type 0
+AcceptsNoKeys = (l : Ledger) (h k : ℕ) (s : SummaryKind) (b : List ℕ) (t : Transaction) → found l.active h ≡ Some t → k ≤ l.limits.keys
+    → (step l (Call.Total h k 0 s) b).answer ≡ Ok (Done.Total (neutral_figure s))
+
+-- it joins no read list; struck out, it leaves every other answer as it is, so it is the cause of no restart
+abbrev pub JoinsNoKeys : Type 0
+JoinsNoKeys = (n : Limits) (newer older : List Made) (h k : ℕ) (s : SummaryKind) (f : Figure) (b b' : List ℕ)
+    → IsTold n (newer ++ (total_now h k 0 s f b b' ∷ older))
+    → (f ≡ neutral_figure s) × (after n (total_now h k 0 s f b b' ∷ older) ≡ after n older) × IsTold n (newer ++ older)
+
+-- both
+abbrev pub NoKeysLaw : Type 0
+NoKeysLaw = AcceptsNoKeys × JoinsNoKeys
+
 -- Over the ledgers that calls lead to
 
 -- starts and stamps are distinct and at most the clock, lists keep to their limits, and a removed version is dead
@@ -148,6 +203,7 @@ RefusalLaw = (l : Ledger) (c : Call) (b : List ℕ) (f : Fault)
 abbrev pub idle_answer : Call → Result Done Fault
 idle_answer (Call.Begin kind) = Err (ClockSpent 0)
 idle_answer (Call.Read h k n) = Err (NoTransaction h)
+idle_answer (Call.Total h k n s) = Err (NoTransaction h)
 idle_answer (Call.Write h k x) = Err (NoTransaction h)
 idle_answer (Call.Commit h) = Err (NoTransaction h)
 idle_answer (Call.Abort h) = Err (NoTransaction h)

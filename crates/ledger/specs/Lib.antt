@@ -1,4 +1,5 @@
 pub mod Ledger
+pub mod Figures
 pub mod Calls
 pub mod Faults
 pub mod Reach

@@ -12,13 +12,13 @@ use Rattle.ledger.specs.History.{Made, Deed, commits, deed, Operation, read_rang
 -- the keys that these operations read: the reads in their order, the keys of each rising
 abbrev pub keys_read : List Operation → List ℕ
 keys_read [] = []
-keys_read (read_range k n ∷ more) = range_with_len k n ++ keys_read more
+keys_read (read_range k n how ∷ more) = range_with_len k n ++ keys_read more
 keys_read (write_key k x ∷ more) = keys_read more
 
 -- one of these operations writes into the granule of the key k
 abbrev pub writes_into : (ℕ → ℕ) → ℕ → List Operation → Bool
 writes_into g k [] = false
-writes_into g k (read_range j n ∷ more) = writes_into g k more
+writes_into g k (read_range j n how ∷ more) = writes_into g k more
 writes_into g k (write_key j x ∷ more) = g j == g k || writes_into g k more
 
 -- the tick of a commit, if its updater wrote into the granule of the key k, else 0; the operations of each are given

@@ -2,7 +2,7 @@
 ghost use Rattle.std.specs.Prelude.{◌≡◌};
 ghost use Rattle.ledger.specs.declared.TheConstants.{MAX_ACTIVE, MAX_READS, MAX_WRITES};
 ghost use Rattle.ledger.specs.Examples.{Examples};
-ghost use Rattle.ledger.specs.Laws.{Law, SerialLaw, TimeLaw, ReclaimLaw, RestartLaw, FullLaw, MomentLaw, TickLaw, OrderLaw, DeathLaw, RefusalLaw, IdleLaw, PastLaw, VerdictLaw, StampLaw, BlindLaw};
+ghost use Rattle.ledger.specs.Laws.{Law, SerialLaw, TimeLaw, ReclaimLaw, RestartLaw, FullLaw, MomentLaw, FigureMomentLaw, TotalLaw, NoKeysLaw, TickLaw, OrderLaw, DeathLaw, RefusalLaw, IdleLaw, PastLaw, VerdictLaw, StampLaw, BlindLaw};
 
 /// At most 16 are active, each with at most 32 ranges read and 32 keys written.
 pub fn limits_are_sixteen_and_thirty_two()
@@ -47,6 +47,21 @@ pub fn histories_are_lawful()
 /// A report shows one moment: a reader reads the serial table as it was when the reader began.
 pub fn a_reader_sees_one_moment()
     ensures { MomentLaw }
+{}
+
+/// A reader's totals show that moment too: each is the figure of the serial table as it was when the reader began.
+pub fn a_reader_is_told_figures_of_one_moment()
+    ensures { FigureMomentLaw }
+{}
+
+/// A total tells a figure of what a read would give, and is to its transaction what that read is.
+pub fn a_total_is_a_read_in_one_figure()
+    ensures { TotalLaw }
+{}
+
+/// A total of no keys answers the neutral figure, joins nothing and is never the cause of a restart.
+pub fn a_total_of_no_keys_changes_nothing()
+    ensures { NoKeysLaw }
 {}
 
 /// Begins and commits draw the ticks from 1 to the clock, each once.

@@ -2,6 +2,9 @@
 //! What each call answers is defined in `specs/`; the laws of it are the contracts in `laws`.
 #![tactic(auto)]
 
+ghost use Rattle.std.specs.Prelude.{◌≡◌};
+ghost use Rattle.ledger.specs.declared.Call.TheVariants.{Read};
+
 use refusals::{Refusal, Report};
 
 pub mod laws;
@@ -12,7 +15,7 @@ pub const LAYER: u8 = 3;
 /// The most transactions that are active at once.
 pub const MAX_ACTIVE: usize = 16;
 
-/// The most ranges that an updater reads.
+/// The most ranges that an updater reads or totals.
 pub const MAX_READS: usize = 32;
 
 /// The most keys that an updater writes.
@@ -27,10 +30,29 @@ pub enum Kind {
 #[derive(Clone, Copy)]
 pub enum Call {
     Begin(Kind),
-    Read { handle: u32, first: u16, count: u16 },
-    Write { handle: u32, key: u16, value: u64 },
-    Commit { handle: u32 },
-    Abort { handle: u32 },
+    Read {
+        handle: u32,
+        first: u16,
+        count: u16,
+    },
+    /// One figure of what a read of the range would give. It needs no buffer; otherwise it is refused as that read is.
+    Total {
+        handle: u32,
+        first: u16,
+        count: u16,
+        summary: SummaryKind,
+    },
+    Write {
+        handle: u32,
+        key: u16,
+        value: u64,
+    },
+    Commit {
+        handle: u32,
+    },
+    Abort {
+        handle: u32,
+    },
     Reclaim,
 }
 
@@ -40,6 +62,8 @@ pub enum Done {
     Began { handle: u32 },
     /// So many values are at the front of the caller's buffer.
     Read { count: u16 },
+    /// One figure of the values that a read would give.
+    Total(Figure),
     Wrote,
     Ended(Verdict),
     Aborted,
@@ -71,11 +95,53 @@ pub enum Fault {
     WriteListFull { handle: u32 },
 }
 
+/// A kind of summary: which figure of the values of a range is told.
+#[derive(Clone, Copy, Debug, PartialEq, Eq)]
+pub enum SummaryKind {
+    /// Their sum modulo 2^64.
+    Sum,
+    /// The smallest of them, with the lowest key that has it.
+    Smallest,
+    /// How many of them are not 0.
+    NonZero,
+}
+
+/// One figure of the values of a range.
+#[derive(Clone, Copy, Debug, PartialEq, Eq)]
+pub enum Figure {
+    /// The sum modulo 2^64.
+    Sum { value: u64 },
+    /// None of a range of no keys; of equal values the one with the lowest key.
+    Smallest { least: Option<KeyedValue> },
+    /// How many values are not 0.
+    NonZero { count: u64 },
+}
+
+/// A value, and the key that has it.
+#[derive(Clone, Copy, Debug, PartialEq, Eq)]
+pub struct KeyedValue {
+    pub key: u16,
+    pub value: u64,
+}
+
 /// A run of keys.
 #[derive(Clone, Copy, PartialEq, Eq)]
 pub struct Range {
     pub first: u16,
     pub count: u16,
+}
+
+impl Range {
+    /// The call that reads it.
+    pub fn read_by(self, handle: u32) -> Call
+        ensures { result ≡ Read handle self.first self.count }
+    {
+        Call::Read {
+            handle,
+            first: self.first,
+            count: self.count,
+        }
+    }
 }
 
 /// A value to be written to a key.

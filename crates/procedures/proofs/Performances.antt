@@ -1,23 +1,33 @@
 -- An engine carries out a call, and one procedure after another.
 use Rattle.refusals.specs.Results.{result_map}
-use Rattle.std.proofs.Common.{◌≡◌, ℕ, List, [], ◌∷◌, ◌++◌, Ok, Err, Result, sym, refl, ap, ◌∙◌, subst, append_assoc}
+use Rattle.std.proofs.Common.{◌≡◌, ℕ, ◌<◌, ◌^◌, List, [], ◌∷◌, ◌++◌, Ok, Err, Result, sym, refl, ap, ◌∙◌, subst, append_assoc}
 use Rattle.ledger.specs.declared.Kind.{Kind}
 use Rattle.ledger.specs.declared.Call.{Call}
-use Rattle.ledger.specs.declared.Call.TheVariants.{Begin, Read, Write, Commit, Abort, Reclaim}
+use Rattle.ledger.specs.declared.Call.TheVariants.{Begin, Read, Total, Write, Commit, Abort, Reclaim}
 use Rattle.ledger.specs.declared.Fault.{Fault}
 use Rattle.ledger.specs.declared.Verdict.{Verdict}
 use Rattle.ledger.specs.declared.Done.{Done}
-use Rattle.ledger.specs.declared.Done.TheVariants.{Began, Read as ReadDone, Wrote, Ended, Aborted, Reclaimed}
+use Rattle.ledger.specs.declared.Done.TheVariants.{Began, Read as ReadDone, Total as TotalDone, Wrote, Ended, Aborted, Reclaimed}
+use Rattle.ledger.specs.declared.Figure.{Figure}
+use Rattle.ledger.specs.declared.SummaryKind.{SummaryKind}
+use Rattle.ledger.specs.declared.SummaryKind.TheVariants.{Sum as ToSum, Smallest as ToSmallest, NonZero as ToNonZero}
 use Rattle.ledger.specs.Ledger.{Limits, Ledger}
 use Rattle.ledger.specs.Calls.{step}
 use Rattle.ledger.specs.History.{after_more, call_made, Made, after}
+use Rattle.summaries.specs.declared.kinds.Sum.{Sum}
+use Rattle.summaries.specs.declared.kinds.Smallest.{Smallest}
+use Rattle.summaries.specs.declared.kinds.NonZero.{NonZero}
+use Rattle.summaries.specs.Summaries.{summary_of}
+use Rattle.summaries.specs.Kinds.{sum_of, sum_one, sum_join, smallest_one, smallest_none, smallest_join, non_zero_of, non_zero_one, non_zero_join}
 use Rattle.versions.specs.Stores.{Store}
 use Rattle.validation.specs.Stamps.{Stamps}
 use Rattle.engine.specs.declared.engine.Engine.{Engine}
 use Rattle.engine.specs.Parts.{FitsEngine, store_of, validator_of, table_of}
 use Rattle.engine.specs.Steps.{LeadsLawfullyTo, Refines, RefinesUnlent, StaysIdle}
+use Rattle.engine.specs.Totals.{TotalsRead}
 use Rattle.engine.proofs.Histories.{goes_on, lawful_in}
-use Rattle.procedures.specs.Procedures.{Procedure, pure, ◌>>=◌, lent_call, unlent_call, handle_in, verdict_in, count_in, begin, read, write, commit, abort, reclaim, Performs}
+use Rattle.engine.proofs.Totals.{sum_steps, smallest_steps, non_zero_steps}
+use Rattle.procedures.specs.Procedures.{Procedure, pure, ◌>>=◌, lent_call, unlent_call, handle_in, figure_in, verdict_in, count_in, begin, read, total, write, commit, abort, reclaim, Performs}
 
 -- the ledger after a history and more calls
 after_all : (n : Limits) (ms cs : List Made) → after n (cs ++ ms) ≡ after_more (after n ms) cs
@@ -90,6 +100,9 @@ module _ {S V : Type 0} {m : S → Store} {p : V → Stamps} where
   pub performs_read : {e e' : Engine S V} {h k n : ℕ} {b b' : List ℕ} (r : Result (Unit {0}) Fault) → Refines m p e e' (Read h k n) b (result_map (λ _. ReadDone n) r) b' → StaysIdle e e' → Performs m p e e' (read h k n b) (r, b')
   performs_read {n = n} r refines still = performs_lent (λ _. ReadDone n) (λ _. tt) (λ _. refl) r refines still
 
+  pub performs_total : {e e' : Engine S V} {h k n : ℕ} {s : SummaryKind} (r : Result Figure Fault) → RefinesUnlent m p e e' (Total h k n s) (result_map TotalDone r) → StaysIdle e e' → Performs m p e e' (total h k n s) r
+  performs_total r refines still = performs_unlent TotalDone figure_in (λ f. refl) r refines still
+
   pub performs_write : {e e' : Engine S V} {h k x : ℕ} (r : Result (Unit {0}) Fault) → RefinesUnlent m p e e' (Write h k x) (result_map (λ _. Wrote) r) → StaysIdle e e' → Performs m p e e' (write h k x) r
   performs_write r refines still = performs_unlent (λ _. Wrote) (λ _. tt) (λ _. refl) r refines still
 
@@ -104,3 +117,25 @@ module _ {S V : Type 0} {m : S → Store} {p : V → Stamps} where
       performs_on _
       (performs_unlent Reclaimed count_in (λ n. refl) (Ok n) refines (λ none. (ap store_of (still none).1, ap validator_of (still none).1, ap (λ e. (table_of e).last) (still none).1 ∙ none)))
       (performs_pure n)
+
+-- Of a kind that calls name, what was told is the ledger's total
+
+module _ {S V : Type 0} (m : S → Store) (p : V → Stamps) {e e' : Engine S V} {h k n : ℕ} where
+  pub sum_refines : (a : Result Sum Fault) → TotalsRead m p e e' h k n (summary_of sum_one (sum_of 0) sum_join k) a → RefinesUnlent m p e e' (Total h k n ToSum) (result_map TotalDone (result_map (λ x. Figure.Sum x.value) a))
+  sum_refines a told b l fits = sum_steps h k n (result_map (λ x. Figure.Sum x.value) a) b a refl (told l fits)
+
+  pub smallest_refines : (a : Result Smallest Fault) → TotalsRead m p e e' h k n (summary_of smallest_one smallest_none smallest_join k) a → RefinesUnlent m p e e' (Total h k n ToSmallest) (result_map TotalDone (result_map (λ x. Figure.Smallest x.least) a))
+  smallest_refines a told b l fits = smallest_steps h k n (result_map (λ x. Figure.Smallest x.least) a) b a refl (told l fits)
+
+  pub non_zero_refines : n < 2 ^ 64 → (a : Result NonZero Fault) → TotalsRead m p e e' h k n (summary_of non_zero_one (non_zero_of 0) non_zero_join k) a → RefinesUnlent m p e e' (Total h k n ToNonZero) (result_map TotalDone (result_map (λ x. Figure.NonZero x.count) a))
+  non_zero_refines few a told b l fits = non_zero_steps h k n (result_map (λ x. Figure.NonZero x.count) a) b few a refl (told l fits)
+
+module _ {S V : Type 0} {m : S → Store} {p : V → Stamps} {e e' : Engine S V} {h k n : ℕ} where
+  pub performs_sum : (a : Result Sum Fault) → TotalsRead m p e e' h k n (summary_of sum_one (sum_of 0) sum_join k) a → StaysIdle e e' → Performs m p e e' (total h k n ToSum) (result_map (λ x. Figure.Sum x.value) a)
+  performs_sum a told still = performs_total (result_map (λ x. Figure.Sum x.value) a) (sum_refines m p a told) still
+
+  pub performs_smallest : (a : Result Smallest Fault) → TotalsRead m p e e' h k n (summary_of smallest_one smallest_none smallest_join k) a → StaysIdle e e' → Performs m p e e' (total h k n ToSmallest) (result_map (λ x. Figure.Smallest x.least) a)
+  performs_smallest a told still = performs_total (result_map (λ x. Figure.Smallest x.least) a) (smallest_refines m p a told) still
+
+  pub performs_non_zero : n < 2 ^ 64 → (a : Result NonZero Fault) → TotalsRead m p e e' h k n (summary_of non_zero_one (non_zero_of 0) non_zero_join k) a → StaysIdle e e' → Performs m p e e' (total h k n ToNonZero) (result_map (λ x. Figure.NonZero x.count) a)
+  performs_non_zero few a told still = performs_total (result_map (λ x. Figure.NonZero x.count) a) (non_zero_refines m p few a told) still

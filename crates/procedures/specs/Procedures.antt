@@ -4,12 +4,14 @@ use Rattle.std.specs.Result.{result_unwrap_or}
 use Rattle.refusals.specs.Results.{result_map}
 use Rattle.ledger.specs.declared.Kind.{Kind}
 use Rattle.ledger.specs.declared.Call.{Call}
-use Rattle.ledger.specs.declared.Call.TheVariants.{Begin, Read, Write, Commit, Abort, Reclaim}
+use Rattle.ledger.specs.declared.Call.TheVariants.{Begin, Read, Total, Write, Commit, Abort, Reclaim}
 use Rattle.ledger.specs.declared.Fault.{Fault}
 use Rattle.ledger.specs.declared.Verdict.{Verdict}
 use Rattle.ledger.specs.declared.Verdict.TheVariants.{Closed}
 use Rattle.ledger.specs.declared.Done.{Done}
-use Rattle.ledger.specs.declared.Done.TheVariants.{Began, Ended, Reclaimed}
+use Rattle.ledger.specs.declared.Done.TheVariants.{Began, Total as TotalDone, Ended, Reclaimed}
+use Rattle.ledger.specs.declared.Figure.{Figure}
+use Rattle.ledger.specs.declared.SummaryKind.{SummaryKind}
 use Rattle.ledger.specs.Ledger.{Limits, Ledger}
 use Rattle.ledger.specs.Calls.{step}
 use Rattle.ledger.specs.History.{Made, call_made, after_more, after}
@@ -62,6 +64,11 @@ abbrev pub handle_in : Done → ℕ
 handle_in (Began h) = h
 handle_in _ = 0
 
+-- the figure that a total told
+abbrev pub figure_in : Done → Figure
+figure_in (TotalDone f) = f
+figure_in _ = Figure.Sum 0
+
 abbrev pub verdict_in : Done → Verdict
 verdict_in (Ended v) = v
 verdict_in _ = Closed
@@ -75,6 +82,10 @@ begin kind = unlent_call (Begin kind) handle_in
 
 abbrev pub read : ℕ → ℕ → ℕ → List ℕ → Procedure (Result (Unit {0}) Fault × List ℕ)
 read h k n b = lent_call (Read h k n) b (λ _. tt)
+
+-- a figure of the values of n keys from k on, under h
+abbrev pub total : ℕ → ℕ → ℕ → SummaryKind → Procedure (Result Figure Fault)
+total h k n s = unlent_call (Total h k n s) figure_in
 
 abbrev pub write : ℕ → ℕ → ℕ → Procedure (Result (Unit {0}) Fault)
 write h k x = unlent_call (Write h k x) (λ _. tt)

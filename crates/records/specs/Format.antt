@@ -1,11 +1,12 @@
 -- The records of a call file: 20 bytes each.
-use Rattle.std.specs.Prelude.{ℕ, Bool, if◌then◌else◌, ◌&&◌, List, [], ◌∷◌, ◌++◌, length, None, Option, ◌==◌, slice_index}
+use Rattle.std.specs.Prelude.{ℕ, Bool, if◌then◌else◌, ◌&&◌, List, [], ◌∷◌, ◌++◌, length, Some, None, Option, ◌==◌, slice_index}
 use Rattle.std.specs.Bool.{then_some}
+use Rattle.std.specs.Option.{option_map}
 use Rattle.std.specs.Int.{w16, w32, w64, from_le_bytes, to_le_bytes}
 use Rattle.std.specs.List.{slice_range}
 use Rattle.ledger.specs.declared.Kind.TheVariants.{Reader, Updater}
 use Rattle.ledger.specs.declared.Call.{Call}
-use Rattle.ledger.specs.declared.Call.TheVariants.{Begin, Read, Write, Commit, Abort, Reclaim}
+use Rattle.ledger.specs.declared.Call.TheVariants.{Begin, Read, Total, Write, Commit, Abort, Reclaim}
 use Rattle.records.specs.declared.codec.Fields.{Fields}
 
 -- The fields
@@ -54,14 +55,17 @@ laid_out f =
     (f.kind ∷ 0 ∷ []) ++ (to_le_bytes w16 f.key ++ (to_le_bytes w16 f.count
     ++ ((0 ∷ 0 ∷ []) ++ (to_le_bytes w32 f.handle ++ to_le_bytes w64 f.value))))
 
-abbrev pub fields_of : Call → Fields
-fields_of (Begin Reader) = with_fields 1 0 0 0 0
-fields_of (Begin Updater) = with_fields 2 0 0 0 0
-fields_of (Read h k n) = with_fields 3 k n h 0
-fields_of (Write h k x) = with_fields 4 k 0 h x
-fields_of (Commit h) = with_fields 5 0 0 h 0
-fields_of (Abort h) = with_fields 6 0 0 h 0
-fields_of Reclaim = with_fields 7 0 0 0 0
+-- the fields of the record that asks for a call; a total has no record
+abbrev pub fields_of : Call → Option Fields
+fields_of (Begin Reader) = Some (with_fields 1 0 0 0 0)
+fields_of (Begin Updater) = Some (with_fields 2 0 0 0 0)
+fields_of (Read h k n) = Some (with_fields 3 k n h 0)
+fields_of (Total h k n s) = None
+fields_of (Write h k x) = Some (with_fields 4 k 0 h x)
+fields_of (Commit h) = Some (with_fields 5 0 0 h 0)
+fields_of (Abort h) = Some (with_fields 6 0 0 h 0)
+fields_of Reclaim = Some (with_fields 7 0 0 0 0)
 
-abbrev pub encoded : Call → List ℕ
-encoded c = laid_out (fields_of c)
+-- the record that asks for a call, if there is one
+abbrev pub encoded : Call → Option (List ℕ)
+encoded c = option_map laid_out (fields_of c)

@@ -1,4 +1,4 @@
-ghost use Rattle.std.specs.Prelude.{◌≡◌, Some};
+ghost use Rattle.std.specs.Prelude.{◌≡◌, Some, IfSome};
 ghost use Rattle.records.specs.Format.{decoded, call_of, encoded, fields_of, laid_out};
 
 use crate::format::Format;
@@ -29,12 +29,12 @@ impl Format for CallFile {
     }
 }
 
-/// The record that asks for a call.
-pub fn encode(call: Call) -> [u8; RECORD]
+/// The record that asks for a call, of those that have one: a call file carries no total.
+pub fn encode(call: Call) -> Option<[u8; RECORD]>
     ensures bytes { result ≡ encoded call }
-    ensures back { decoded result ≡ Some call }
+    ensures back { IfSome result (λ bytes. decoded bytes ≡ Some call) }
 {
-    Fields::from(call).lay_out()
+    Some(Fields::of(call)?.lay_out())
 }
 
 /// What the bytes of a record say. A field that the kind does not use is zero.
@@ -47,12 +47,13 @@ struct Fields {
     value: u64,
 }
 
-// The kinds' numbers are the format's: they stand in this table and in the one back, and nowhere else.
+// The kinds' numbers are the format's: they stand in this table and in the one back.
 // Both are of tuples, so that their lines read alike.
-impl From<Call> for Fields {
-    ghost from_gives = { λ call fields. fields ≡ fields_of call };
-
-    fn from(call: Call) -> Fields {
+impl Fields {
+    /// The fields of the record that asks for a call, if there is one.
+    fn of(call: Call) -> Option<Fields>
+        ensures { result ≡ fields_of call }
+    {
         let (kind, key, count, handle, value) = match call {
             Call::Begin(Kind::Reader) => (1, 0, 0, 0, 0),
             Call::Begin(Kind::Updater) => (2, 0, 0, 0, 0),
@@ -61,22 +62,21 @@ impl From<Call> for Fields {
                 first,
                 count,
             } => (3, first, count, handle, 0),
+            Call::Total { .. } => return None,
             Call::Write { handle, key, value } => (4, key, 0, handle, value),
             Call::Commit { handle } => (5, 0, 0, handle, 0),
             Call::Abort { handle } => (6, 0, 0, handle, 0),
             Call::Reclaim => (7, 0, 0, 0, 0),
         };
-        Fields {
+        Some(Fields {
             kind,
             key,
             count,
             handle,
             value,
-        }
+        })
     }
-}
 
-impl Fields {
     /// The call that they say; none where no kind has these fields.
     fn call(self) -> Option<Call>
         ensures { result ≡ call_of self }

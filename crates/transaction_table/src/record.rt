@@ -1,7 +1,7 @@
 ghost use Rattle.std.specs.Prelude.{◌≡◌, if◌then◌else◌, OnErr};
 ghost use Rattle.std.specs.Result.{is_ok};
 ghost use Rattle.ledger.specs.Ledger.{handle_of, moment_of};
-ghost use Rattle.ledger.specs.Calls.{joined, wrote, range_check, join_check, write_check, having_made};
+ghost use Rattle.ledger.specs.Calls.{joined, wrote, range_check, read_check, write_check, having_made};
 ghost use Rattle.transaction_table.specs.View.{view};
 ghost use Rattle.transaction_table.specs.Slots.{holds_kind, state_of, new_record, free_record};
 ghost use Rattle.transaction_table.specs.Next.{take_answer};
@@ -114,11 +114,16 @@ impl Record {
                 handle: self.handle(),
             }),
             (State::Updater, Call::Read { first, count, .. }) => {
-                let range = Range { first, count };
-                readable(range, keys, room)?;
-                self.take_read(range)?;
+                self.take_read(Range { first, count }, keys, room)?;
             }
             (_, Call::Read { first, count, .. }) => readable(Range { first, count }, keys, room)?,
+            // It is lent no buffer, and needs none.
+            (State::Updater, Call::Total { first, count, .. }) => {
+                self.take_read(Range { first, count }, keys, usize::from(count))?;
+            }
+            (_, Call::Total { first, count, .. }) => {
+                readable(Range { first, count }, keys, usize::from(count))?;
+            }
             (State::Updater, Call::Commit { .. }) => return Ok(Next::Judge),
             (_, _) => {}
         }
@@ -143,15 +148,16 @@ impl Record {
             .map_err(|_| Fault::WriteListFull { handle })
     }
 
-    /// An updater's read of a range that it may read.
-    fn take_read(&mut self, range: Range) -> Result<(), Fault>
+    /// An updater's read of a range, into a buffer of this length.
+    fn take_read(&mut self, range: Range, keys: u16, room: usize) -> Result<(), Fault>
         requires { self.old.state ≡ State.Updater }
-        ensures answer { result ≡ join_check (view self.old) range.first range.count }
+        ensures answer { result ≡ read_check keys room (view self.old) range.first range.count }
         ensures state { self.new.state ≡ self.old.state }
         ensures after { view self.new ≡
             (if is_ok result then joined (view self.old) range.first range.count else view self.old) }
         ensures refusal { OnErr result (self.new ≡ self.old) }
     {
+        readable(range, keys, room)?;
         // A range of no keys reads nothing, so nothing can clash with it.
         if range.count == 0 {
             return Ok(());

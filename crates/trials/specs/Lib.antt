@@ -1,3 +1,4 @@
 pub mod Tally
 pub mod Setting
+pub mod Format
 pub mod Runs

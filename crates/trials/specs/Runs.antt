@@ -5,7 +5,7 @@ use Rattle.versions.specs.Stores.{Store, new_store, sizes_check}
 use Rattle.chain.specs.Store.{chain_check}
 use Rattle.validation.specs.Stamps.{Stamps}
 use Rattle.validation.specs.SetUp.{stamp_table_check, recent_list_check, new_stamps}
-use Rattle.records.specs.Format.{decoded}
+use Rattle.trials.specs.Format.{trial_decoded}
 use Rattle.callfile.specs.Programs.{lines_over}
 use Rattle.trials.specs.declared.tally.Tally.{Tally}
 use Rattle.trials.specs.declared.trial.Setting.{Setting}
@@ -13,7 +13,7 @@ use Rattle.trials.specs.Tally.{run_tally, tally_sum}
 
 -- the tally of one run, over a store and a validator of these meanings
 abbrev pub tally_over : Setting → List ℕ → List ℕ → Store → Stamps → Tally
-tally_over g calls expected s v = run_tally expected (lines_over decoded g.last s v g.places calls)
+tally_over g calls expected s v = run_tally expected (lines_over trial_decoded g.last s v g.places calls)
 
 -- the stores of a setting
 abbrev pub new_log_store : Setting → Store

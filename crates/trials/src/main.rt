@@ -3,6 +3,7 @@
 //! The word `differ` is printed only where one does.
 #![tactic(auto)]
 
+mod format;
 mod tally;
 mod trial;
 

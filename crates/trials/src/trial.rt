@@ -8,12 +8,12 @@ ghost use Rattle.trials.specs.Setting.{Gives, GivesNone};
 ghost use Rattle.trials.specs.Runs.{tally_over, new_log_store, new_chain_store, tables_tally, lists_tally, pairs_tally};
 ghost use Rattle.trials.specs.Tally.{run_tally};
 
+use crate::format::TrialFile;
 use crate::tally::Tally;
 use callfile::stream::run;
 use chain::cell::Cell;
 use chain::store::ChainStore;
 use engine::engine::Engine;
-use records::codec::CallFile;
 use std::alloc::Global;
 use std::io;
 use std::io::{BufReader, BufWriter};
@@ -184,7 +184,7 @@ impl Trial<'_> {
         let mut input = BufReader::new(self.heap, self.calls)?;
         let mut output = BufWriter::new(self.heap, Vec::new(self.heap))?;
         let mut engine = Engine::make(self.setting.last, store, validator);
-        run::<CallFile, _, _, _, _>(
+        run::<TrialFile, _, _, _, _>(
             self.heap,
             &mut engine,
             buffer.as_mut_slice(),

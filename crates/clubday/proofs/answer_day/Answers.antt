@@ -15,8 +15,8 @@ pub returns : goal.returns
 returns g c =
     let first = c.make-first.ensures in
     let second = c.make-second.ensures in
-    let one = made_with log_meaning list_meaning day_limits 51 log recent c.make-log.result c.make-recent.result c.make-first.result first_limits c.make-log.ensures.empty c.make-recent.ensures.fresh first.fits first.store first.validator first.last in
-    let other = made_with chain_meaning table_meaning day_limits 51 chain stamp_table c.make-chain.result c.make-table.result c.make-second.result second_limits c.make-chain.ensures.empty c.make-table.ensures.fresh second.fits second.store second.validator second.last in
+    let one = made_with log_meaning list_meaning day_limits 54 log recent c.make-log.result c.make-recent.result c.make-first.result first_limits c.make-log.ensures.empty c.make-recent.ensures.fresh first.fits first.store first.validator first.last in
+    let other = made_with chain_meaning table_meaning day_limits 54 chain stamp_table c.make-chain.result c.make-table.result c.make-second.result second_limits c.make-chain.ensures.empty c.make-table.ensures.fresh second.fits second.store second.validator second.last in
     let old = writer_contents g.W.Write.contents c.args.output.now in
     let new = writer_contents g.W.Write.contents c.run.new.output in
     let day = lines_day log_meaning list_meaning chain_meaning table_meaning c.make-first.result c.make-second.result c.new-one.result c.run.new.one c.new-other.result c.run.new.other old new one other c.new-one.ensures c.new-other.ensures in

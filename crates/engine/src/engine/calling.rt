@@ -1,9 +1,13 @@
 // Any of the calls, as a value.
 ghost use Rattle.std.specs.Prelude.{◌≡◌, OnErr};
-ghost use Rattle.engine.specs.Steps.{Refines, StaysIdle, GoesOn};
+ghost use Rattle.refusals.specs.Results.{result_map};
+ghost use Rattle.ledger.specs.declared.Call.TheVariants.{Total};
+ghost use Rattle.ledger.specs.declared.Done.TheVariants.{Total as TotalDone};
+ghost use Rattle.engine.specs.Steps.{Refines, RefinesUnlent, StaysIdle, GoesOn};
 
 use super::Engine;
-use ledger::{Call, Done, Fault};
+use ledger::{Call, Done, Fault, Figure, SummaryKind};
+use summaries::kinds::{NonZero, Smallest, Sum};
 use validation::validator::Validator;
 use versions::store::VersionStore;
 
@@ -36,6 +40,12 @@ impl<S: VersionStore, V: Validator> Engine<S, V> {
             } => self
                 .read(handle, first, count, buffer)
                 .map(|()| Done::Read { count }),
+            Call::Total {
+                handle,
+                first,
+                count,
+                summary,
+            } => self.figure(handle, first, count, summary).map(Done::Total),
             Call::Write { handle, key, value } => {
                 self.write(handle, key, value).map(|()| Done::Wrote)
             }
@@ -44,6 +54,30 @@ impl<S: VersionStore, V: Validator> Engine<S, V> {
             Call::Reclaim => Ok(Done::Reclaimed {
                 count: self.reclaim(),
             }),
+        }
+    }
+
+    /// A total of the kind that a call names.
+    fn figure(
+        &mut self,
+        handle: u32,
+        first: u16,
+        count: u16,
+        summary: SummaryKind,
+    ) -> Result<Figure, Fault>
+        ensures refines { RefinesUnlent S.meaning V.meaning self.old self.new
+            (Total handle first count summary) (result_map TotalDone result) }
+        ensures refusal { OnErr result (self.new ≡ self.old) }
+        ensures idle { StaysIdle self.old self.new }
+    {
+        match summary {
+            SummaryKind::Sum => self.total::<Sum>(handle, first, count).map(Figure::from),
+            SummaryKind::Smallest => self
+                .total::<Smallest>(handle, first, count)
+                .map(Figure::from),
+            SummaryKind::NonZero => self
+                .total::<NonZero>(handle, first, count)
+                .map(Figure::from),
         }
     }
 }

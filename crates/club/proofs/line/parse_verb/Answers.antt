@@ -21,3 +21,13 @@ pub returns-in-recalculate : goal.returns-in-recalculate
 returns-in-recalculate c =
     let w : c.args.word.now ≡ codes "recalculate" = text_from_reads c.args.word.now (codes "recalculate") (omega arith) (search rules) in
     rw w refl
+
+pub returns-in-figures : goal.returns-in-figures
+returns-in-figures c =
+    let w : c.args.word.now ≡ codes "figures" = text_from_reads c.args.word.now (codes "figures") (omega arith) (search rules) in
+    rw w refl
+
+pub returns-in-115 : goal.returns-in-115
+returns-in-115 c =
+    let w : c.args.word.now ≡ codes "show-figures" = text_from_reads c.args.word.now (codes "show-figures") (omega arith) (search rules) in
+    rw w refl

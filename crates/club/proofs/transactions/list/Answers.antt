@@ -1,7 +1,8 @@
-use Rattle.std.proofs.Common.{[], Ok, Err}
+use Rattle.std.proofs.Common.{Ok, Err}
 use Rattle.std.proofs.lemmas.Result.{err_from_is_err_and}
 use Rattle.procedures.proofs.Performances.{performs_on, performs_pure, performs_begin, performs_read, performs_commit}
-use Rattle.club.proofs.Moments.{list_now}
+use Rattle.club.specs.Moments.{club_in}
+use Rattle.club.proofs.Moments.{opened_now, show_opening}
 use Rattle.club.proofs.transactions.list.Goals as goal
 
 pub returns-in_err-slip : goal.returns-in_err-slip
@@ -28,5 +29,5 @@ returns-clause-performs g c =
 
 pub returns-clause-now : goal.returns-clause-now
 returns-clause-now g c =
-    list_now g.S.VersionStore.meaning g.V.Validator.meaning c.begin_slip.new.self c.read_under-read.new.self c.in_ok-slip.slip.handle c.read_under-read.new.buffer c.args.engine.now
-    (c.in_ok-slip.ensures.refines []) c.in_ok-read.ensures.refines
+    opened_now g.S.VersionStore.meaning g.V.Validator.meaning c.args.engine.now c.begin_slip.new.self c.in_ok-slip.slip.handle club_in _ c.in_ok-slip.ensures.refines
+    (show_opening g.S.VersionStore.meaning g.V.Validator.meaning c.begin_slip.new.self c.read_under-read.new.self c.in_ok-slip.slip.handle c.read_under-read.new.buffer c.in_ok-read.ensures.refines)

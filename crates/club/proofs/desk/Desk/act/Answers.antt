@@ -13,6 +13,12 @@ returns-in-Correction-clause-performs g c = rw c.in-Correction.is (performs_on _
 pub returns-in-List-clause-performs : goal.returns-in-List-clause-performs
 returns-in-List-clause-performs g c = rw c.in-List.is (performs_on _ c.list.ensures.performs (performs_pure _))
 
+pub returns-in-Figures-clause-performs : goal.returns-in-Figures-clause-performs
+returns-in-Figures-clause-performs g c = rw c.in-Figures.is (performs_on _ c.list_figures.ensures.performs (performs_pure _))
+
+pub returns-in-ShowFigures-clause-performs : goal.returns-in-ShowFigures-clause-performs
+returns-in-ShowFigures-clause-performs g c = rw c.in-ShowFigures.is (performs_on _ c.show_figures.ensures.performs (performs_pure _))
+
 pub returns-in-Show-clause-performs : goal.returns-in-Show-clause-performs
 returns-in-Show-clause-performs g c = rw c.in-Show.is (performs_on _ c.show.ensures.performs (performs_pure _))
 

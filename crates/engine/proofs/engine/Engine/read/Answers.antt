@@ -18,11 +18,11 @@ returns-in_err-take-clause-refines g c l f =
     let b = c.args.buffer.now in
     let there = found_search _ (NoTransaction c.args.handle) c.in_ok-slot.slot c.in_ok-slot.ensures.place in
     let p = err_from_is_err_and c.from_residual-in_err-take.result c.from_residual-in_err-take.ensures.1 in
-    let e = c.in_err-take.ensures in
+    let e = rw c.read_by.ensures at c.in_err-take.ensures in
     rw (p.1, p.2) (stayed f c.args.handle c.in_ok-slot.slot c.index-self-slot.result c.take.new.self there e.state _ c.keys-keys.ensures (Read c.args.handle c.args.first c.args.count) b (read_effect l b c.args.handle c.args.first c.args.count) _ refl e.answer e.refusal)
 
 pub returns-clause-refines : goal.returns-clause-refines
 returns-clause-refines g c l f =
     let there = found_search _ (NoTransaction c.args.handle) c.in_ok-slot.slot c.in_ok-slot.ensures.place in
-    let e = c.in_ok-take.ensures in
+    let e = rw c.read_by.ensures at c.in_ok-take.ensures in
     read_steps f c.args.handle c.in_ok-slot.slot c.index-self-slot.result c.take.new.self there e.state _ c.keys-keys.ensures c.args.first c.args.count c.args.buffer.now c.fill.new.buffer c.in_ok-take.field-0 e.answer e.after c.fill.ensures

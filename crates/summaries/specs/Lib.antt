@@ -1,0 +1,3 @@
+pub mod Summaries
+pub mod Kinds
+pub mod KindLaws
