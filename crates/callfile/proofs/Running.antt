@@ -192,6 +192,10 @@ module _ {S V : Type 0} (d : List ℕ → Option Call) (m : S → Store) (p : V 
         lines = answered_begun e e' rs b b' old mid new text before.answered some;
       }
 
+  -- an error before anything was read or written
+  pub stops_at_once : (e : Engine S V) (b : List ℕ) (left old : Option (List ℕ)) → Stops d m p e e 1 b b left left old old
+  stops_at_once e b left old = stops_handing (no_progress e b left old [] refl) ([], Appends-nil old, refl)
+
   -- an error behind more records
   pub stops_behind : {e e' e'' : Engine S V} {number : ℕ} {b b' b'' : List ℕ} {left left' left'' old new : Option (List ℕ)} {text : List ℕ} → Progress e e' number b b' left left' old new text → Breaks d m p e' e'' number b' b'' left' left'' → Stops d m p e e'' 1 b b'' left left'' old new
   stops_behind {e} {e'} {e''} {number} {b} {b'} {b''} {left} {left'} {left''} {old} {new} {text} before stop =

@@ -1,7 +1,9 @@
-ghost use Rattle.std.specs.Prelude.{◌≡◌, ℕ, ◌^◌, ◌<◌, ◌≤◌, List, [], ◌∷◌, length, take, OnOk, OnErr, IfOk, IfSome, MatchResult};
+ghost use Rattle.std.specs.Prelude.{◌≡◌, ◌≢◌, ℕ, ◌^◌, ◌<◌, ◌≤◌, List, [], ◌∷◌, length, take, OnOk, OnErr, IfOk, IfErr, IfSome, MatchResult};
+ghost use Rattle.std.specs.Io.{WritesAtMost};
 ghost use Rattle.std.specs.Io.Buffered.{reader_buffer, reader_remaining, writer_buffer, writer_contents};
-ghost use Rattle.std.specs.String.{string_bytes};
-ghost use Rattle.std.specs.Io.KnownBytes.{Appends, Consumes, IsAtEnd};
+ghost use Rattle.std.specs.IoError.{error_kind};
+ghost use Rattle.std.specs.String.{string_bytes, string_capacity};
+ghost use Rattle.std.specs.Io.KnownBytes.{Appends, Consumes, IsAtEnd, WriteAppends};
 ghost use Rattle.callfile.specs.Runs.{Answers, AnswersFile, AppendsSome, Breaks, ConsumesSome, Stops};
 ghost use Rattle.callfile.specs.Steps.{GoesThrough, Advances, GrowsByLines, HandsOver};
 
@@ -10,6 +12,7 @@ use crate::line::Line;
 use engine::engine::Engine;
 use records::codec::RECORD;
 use records::format::Format;
+use stamped::MAX_KEYS;
 use std::alloc::Global;
 use std::io;
 use std::io::{BufReader, BufWriter, ErrorKind, Read, Write};
@@ -19,8 +22,15 @@ use versions::store::VersionStore;
 /// Lines are handed to the output at the latest once they have this many bytes: a buffer of std's.
 const HELD: usize = 8192;
 
+/// The longest line: a number of 20 digits, " read", a space and 20 digits for each key, and a line feed.
+const LONGEST: usize = 20 + 5 + 21 * MAX_KEYS as usize + 1;
+
+/// Room for the longest line behind the lines that are held, so that the text never grows.
+const ROOM: usize = HELD + LONGEST;
+
 /// Answers each record of an input on the engine, until the input ends. Every read is lent the buffer.
-/// A text of the lines that are held is allocated, and no more.
+/// A text for the lines that are held is allocated, once and before anything is read:
+/// where there is no memory for it, nothing is answered, and all is left as it was.
 pub fn run<F: Format, S: VersionStore, V: Validator, R: Read, W: Write + Drop>(
     alloc: Global,
     engine: &mut Engine<S, V>,
@@ -74,7 +84,7 @@ fn answer_all<F: Format, S: VersionStore, V: Validator, R: Read, W: Write + Drop
         (reader_remaining R.remaining input.new) (writer_contents W.contents output.old)
         (writer_contents W.contents output.new)) }
 {
-    let mut text = String::new(alloc);
+    let mut text = new_text(alloc)?;
     for number in 1..u64::MAX {
         hand_over(input, &mut text, output)?;
         if !answer_next::<F, _, _, _>(number, engine, buffer, input, &mut text)? {
@@ -82,6 +92,16 @@ fn answer_all<F: Format, S: VersionStore, V: Validator, R: Read, W: Write + Drop
         }
     }
     write_lines(&mut text, output)
+}
+
+/// An empty text, with room for the longest line behind the lines that are held.
+// Out of line, since it comes once in a run.
+#[inline(never)]
+fn new_text(alloc: Global) -> io::Result<String>
+    ensures empty { IfOk result (λ text. string_bytes text ≡ []) }
+    ensures room { IfOk result (λ text. ROOM ≤ string_capacity text) }
+{
+    Ok(String::with_capacity(alloc, ROOM)?)
 }
 
 /// Who waits for an answer before the next record must have it before that is waited for.
@@ -186,6 +206,7 @@ fn write_lines<W: Write>(text: &mut String, output: &mut W) -> io::Result<()>
         (λ _. Appends (W.contents output.old) (W.contents output.new) (string_bytes text.old))
         (λ _. AppendsSome (W.contents output.old) (W.contents output.new)
         (string_bytes text.old)) }
+    ensures retried { IfErr result (λ e. error_kind e ≢ ErrorKind.Interrupted) }
     ensures cleared { OnOk result (string_bytes text.new ≡ []) }
 {
     write_text(output, text.as_bytes())?;
@@ -195,18 +216,38 @@ fn write_lines<W: Write>(text: &mut String, output: &mut W) -> io::Result<()>
 
 /// Writes all of a text; what an error leaves written is a beginning of it.
 fn write_text<W: Write>(output: &mut W, text: &[u8]) -> io::Result<()>
-    ensures { MatchResult result
+    ensures bytes { MatchResult result
         (λ _. Appends (W.contents output.old) (W.contents output.new) text.now)
         (λ _. AppendsSome (W.contents output.old) (W.contents output.new) text.now) }
+    ensures retried { IfErr result (λ e. error_kind e ≢ ErrorKind.Interrupted) }
 {
     // `write_all` does not tell what an error leaves.
     let mut written = 0;
     while written < text.len() {
-        let count = output.write(&text[written..])?;
+        let count = write_some(output, &text[written..])?;
         if count == 0 {
             return Err(ErrorKind::WriteZero.into());
         }
         written += count;
     }
     Ok(())
+}
+
+/// Writes a beginning of a text. A write that is interrupted is tried again, as the library does.
+fn write_some<W: Write>(output: &mut W, text: &[u8]) -> io::Result<usize>
+    ensures bound { WritesAtMost result text.now }
+    ensures bytes { WriteAppends (W.contents output.old) (W.contents output.new) result text.now }
+    ensures retried { IfErr result (λ e. error_kind e ≢ ErrorKind.Interrupted) }
+{
+    for _ in 0..u64::MAX {
+        match output.write(text) {
+            Ok(some) => return Ok(some),
+            Err(error) => {
+                if error.kind() != ErrorKind::Interrupted {
+                    return Err(error);
+                }
+            }
+        }
+    }
+    Err(ErrorKind::TimedOut.into())
 }

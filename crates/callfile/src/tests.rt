@@ -42,14 +42,22 @@ fn records(alloc: Global) -> io::Result<Vec<u8>> {
 }
 
 fn run_over<R: Read + Drop, W: Write + Drop>(alloc: Global, input: R, output: W) -> io::Result<()> {
+    let mut output = BufWriter::new(alloc, output)?;
+    run_into(alloc, input, &mut output)
+}
+
+fn run_into<R: Read + Drop, W: Write + Drop>(
+    alloc: Global,
+    input: R,
+    output: &mut BufWriter<W>,
+) -> io::Result<()> {
     let mut cells = [Version::CLEARED; 4];
     let mut entries = [Entry::CLEARED; 4];
     let store = LogStore::make(4, &mut cells);
     let validator = RecentList::make(4, &mut entries);
     let mut engine = Engine::make(100, store, validator);
     let mut input = BufReader::new(alloc, input)?;
-    let mut output = BufWriter::new(alloc, output)?;
-    run::<CallFile, _, _, _, _>(alloc, &mut engine, &mut [0; 2], &mut input, &mut output)
+    run::<CallFile, _, _, _, _>(alloc, &mut engine, &mut [0; 2], &mut input, output)
 }
 
 /// What came out of a run, and how many calls made it so.
@@ -95,6 +103,29 @@ impl Write for FailsOnce<'_> {
         if self.outcome.count() == self.at {
             return Err(ErrorKind::BrokenPipe.into());
         }
+        Ok(())
+    }
+}
+
+/// Is interrupted at every other write.
+#[derive(Drop)]
+struct Interrupted<'a> {
+    outcome: &'a Outcome,
+}
+
+impl Write for Interrupted<'_> {
+    fn write(&mut self, buf: &[u8]) -> io::Result<usize> {
+        if self.outcome.count().is_multiple_of(2) {
+            return Err(ErrorKind::Interrupted.into());
+        }
+        match self.outcome.lines.try_borrow_mut() {
+            Ok(mut lines) => lines.extend_from_slice(buf)?,
+            Err(_) => return Err(ErrorKind::Other.into()),
+        }
+        Ok(buf.len())
+    }
+
+    fn flush(&mut self) -> io::Result<()> {
         Ok(())
     }
 }
@@ -189,5 +220,17 @@ fn each_failing_call_is_an_error_after_some_lines(rt: HostRuntime) -> Result<(),
             "at {at}"
         );
     }
+    Ok(())
+}
+
+#[test]
+fn a_write_that_is_interrupted_is_tried_again(rt: HostRuntime) -> Result<(), Fail> {
+    let records = records(rt.alloc())?;
+    let outcome = Outcome::new(rt.alloc());
+    let output = Interrupted { outcome: &outcome };
+    // With no buffer each text goes to the writer itself.
+    let mut output = BufWriter::with_capacity(rt.alloc(), 0, output)?;
+    run_into(rt.alloc(), records.as_slice(), &mut output)?;
+    assert_eq!(rt; outcome.lines.try_borrow()?.as_slice(), LINES);
     Ok(())
 }

@@ -2,15 +2,20 @@ use Rattle.std.specs.Io.Buffered.{writer_contents}
 use Rattle.std.proofs.Common.{subst}
 use Rattle.std.proofs.lemmas.Result.{MatchResult-from_err}
 use Rattle.callfile.specs.Steps.{Advances}
-use Rattle.callfile.proofs.Running.{no_progress, handed_progress, more_progress, last_progress, worn_out, stops_handing, stops_behind, finished_written}
+use Rattle.callfile.proofs.Running.{no_progress, stops_at_once, handed_progress, more_progress, last_progress, worn_out, stops_handing, stops_behind, finished_written}
 use Rattle.callfile.proofs.stream.answer_all.Goals as goal
 
 pub loop-number-init : goal.loop-number-init
-loop-number-init g c = no_progress _ _ _ _ _ _ _ _ c.new-text.ensures.bytes
+loop-number-init g c = no_progress _ _ _ _ _ _ _ _ c.in_ok-text.ensures.empty
+
+pub returns-in_err-text : goal.returns-in_err-text
+returns-in_err-text g c =
+    MatchResult-from_err _ _ _ c.from_residual.ensures.0
+    (λ _. stops_at_once g.F.Format.decoded g.S.VersionStore.meaning g.V.Validator.meaning _ _ _ _)
 
 pub returns-in_err-hand_over : goal.returns-in_err-hand_over
 returns-in_err-hand_over g c =
-    MatchResult-from_err _ _ _ c.from_residual.ensures.0
+    MatchResult-from_err _ _ _ c.from_residual-in_err-hand_over.ensures.0
     (λ _. stops_handing g.F.Format.decoded g.S.VersionStore.meaning g.V.Validator.meaning c.loop-number.invariant c.in_err-hand_over.ensures.bytes)
 
 pub returns-in_err-answer_next : goal.returns-in_err-answer_next
