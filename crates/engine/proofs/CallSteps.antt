@@ -49,7 +49,7 @@ map_err f m u (Err x) e = cc
 admitted_read : (keys room : ℕ) (u : Transaction) (h k n : ℕ) (m : Next) → Ok m ≡ take_answer keys room u (Read h k n) → k + n ≤ keys
 admitted_read keys room u h k n m e = go (in_table keys k n) refl e
   where
-    go : (inside : Bool) → leb (k + n) keys ≡ inside → Ok m ≡ result_map (λ _. next_of u (Read h k n)) (result_and (cond {A = Result (Unit {0}) Fault} (not inside) (Err (KeyOutside k)) (cond {A = Result (Unit {0}) Fault} (ltb room n) (Err (ShortBuffer room)) (Ok tt))) (join_check u k n)) → k + n ≤ keys
+    go : (inside : Bool) → leb (k + n) keys ≡ inside → Ok m ≡ result_map (λ _. next_of u (Read h k n)) (result_and (cond {A = Result (Unit {0}) Fault} (not inside) (Err (KeyOutside k)) (cond {A = Result (Unit {0}) Fault} (ltb room n) (Err (ShortBuffer room)) (Ok tt))) (join_check h u k n)) → k + n ≤ keys
     go false d q = cc
     go true d q = leb-true (k + n) keys d
 

@@ -11,7 +11,7 @@ use Rattle.ledger.specs.declared.Fault.{Fault}
 use Rattle.ledger.specs.declared.Fault.TheVariants.{KeyOutside, NoTransaction, ReadListFull}
 use Rattle.ledger.specs.declared.Done.{Done}
 use Rattle.ledger.specs.declared.Done.TheVariants.{Read as ReadDone, Total as TotalDone}
-use Rattle.ledger.specs.Ledger.{Transaction, Ledger, handle_of, found}
+use Rattle.ledger.specs.Ledger.{Transaction, Ledger, found}
 use Rattle.ledger.specs.Laws.{total_answer}
 use Rattle.ledger.specs.Figures.{figure_of}
 use Rattle.ledger.specs.Calls.{read_effect, new_buffer, joined, joins, in_table, read_list_full, seen, step}
@@ -71,7 +71,7 @@ halves_join {M = M} {neutral = neutral} {join = join} laws one l h k n t x e her
     whole : M
     whole = summary_of one neutral join k (map (seen l t) (range_with_len k n))
 
-    go : (a b : Bool) → Ok x ≡ cond {A = Result M Fault} (not a) (Err (KeyOutside k)) (cond {A = Result M Fault} b (Err (ReadListFull (handle_of t))) (Ok whole)) → x ≡ whole
+    go : (a b : Bool) → Ok x ≡ cond {A = Result M Fault} (not a) (Err (KeyOutside k)) (cond {A = Result M Fault} b (Err (ReadListFull h)) (Ok whole)) → x ≡ whole
     go false b q = cc
     go true true q = cc
     go true false q = cc

@@ -71,10 +71,10 @@ read_way l b h k n P refused done = go (found l.active h) refl
     go None e = refused (NoTransaction h)
     go (Some t) e =
         let G : Result (Unit {0}) Fault → Type 0 = λ r. P (result_map (read_effect l b h k n) (result_map (λ _. t) r)) in
-        let H : Result (Unit {0}) Fault → Type 0 = λ r. G (result_and r (join_check t k n)) in
+        let H : Result (Unit {0}) Fault → Type 0 = λ r. G (result_and r (join_check h t k n)) in
         tested H (not (in_table l.limits.keys k n)) (λ _. refused (KeyOutside k)) (λ p.
         tested H (ltb (length b) n) (λ _. refused (ShortBuffer (length b))) (λ q.
-        tested G (joins t n && read_list_full t.reads k n) (λ _. refused (ReadListFull (handle_of t))) (λ r.
+        tested G (joins t n && read_list_full t.reads k n) (λ _. refused (ReadListFull h)) (λ r.
         done t e (leb-true _ _ (not-false _ p)) r)))
 
 course_read : (l : Ledger) (b : List ℕ) (h k n : ℕ) → Goes l (Call.Read h k n) (outcome l b (read_result l b h k n))

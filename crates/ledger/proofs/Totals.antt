@@ -52,8 +52,8 @@ told_of {X = X} figure l h k n = by_one (found l.active h)
     by_one None = refl
     by_one (Some t) = go (in_table l.limits.keys k n) (joins t n && read_list_full t.reads k n)
       where
-        go : (i j : Bool) → told (checked l (new_buffer n) (result_map (λ _. t) (result_and (cond {A = Result (Unit {0}) Fault} (not i) (Err (KeyOutside k)) (cond {A = Result (Unit {0}) Fault} (ltb (length (new_buffer n)) n) (Err (ShortBuffer (length (new_buffer n)))) (Ok tt))) (cond {A = Result (Unit {0}) Fault} j (Err (ReadListFull (handle_of t))) (Ok tt)))) (read_effect l (new_buffer n) h k n))
-            ≡ cond {A = Result X Fault} (not i) (Err (KeyOutside k)) (cond {A = Result X Fault} j (Err (ReadListFull (handle_of t))) (Ok (figure (map (seen l t) (range_with_len k n)))))
+        go : (i j : Bool) → told (checked l (new_buffer n) (result_map (λ _. t) (result_and (cond {A = Result (Unit {0}) Fault} (not i) (Err (KeyOutside k)) (cond {A = Result (Unit {0}) Fault} (ltb (length (new_buffer n)) n) (Err (ShortBuffer (length (new_buffer n)))) (Ok tt))) (cond {A = Result (Unit {0}) Fault} j (Err (ReadListFull h)) (Ok tt)))) (read_effect l (new_buffer n) h k n))
+            ≡ cond {A = Result X Fault} (not i) (Err (KeyOutside k)) (cond {A = Result X Fault} j (Err (ReadListFull h)) (Ok (figure (map (seen l t) (range_with_len k n)))))
         go false j = refl
         go true true = rw room refl
         go true false = rw room (ap (λ xs. Ok (figure xs)) (filled (seen l t) k n))
@@ -99,7 +99,7 @@ neutral l h k s f b = read_way l [] h k 0 (λ r. Ok (Done.Total f) ≡ (outcome 
 accepts : AcceptsNoKeys
 accepts l h k s b t e inside = (total l h k 0 s b).answer ∙ ap (total_answer (λ xs. Done.Total (figure_of s k xs)) l h k 0) e ∙ rw (le-leb (k + 0) l.limits.keys (omega (arith, inside))) (go (is_reader t.kind))
   where
-    go : (r : Bool) → cond {A = Result Done Fault} ((not r && ltb 0 0) && read_list_full t.reads k 0) (Err (ReadListFull (handle_of t))) (Ok (Done.Total (figure_of s k []))) ≡ Ok (Done.Total (neutral_figure s))
+    go : (r : Bool) → cond {A = Result Done Fault} ((not r && ltb 0 0) && read_list_full t.reads k 0) (Err (ReadListFull h)) (Ok (Done.Total (figure_of s k []))) ≡ Ok (Done.Total (neutral_figure s))
     go true = ap (λ f. Ok (Done.Total f)) (none k s)
     go false = ap (λ f. Ok (Done.Total f)) (none k s)
 

@@ -118,27 +118,27 @@ range_check keys room k n =
     else if nat_lt room n then Err (ShortBuffer room)
     else Ok tt
 
--- the same range, for the read list of t
-abbrev pub join_check : Transaction → ℕ → ℕ → Result (Unit {0}) Fault
-join_check t k n = if joins t n && read_list_full t.reads k n then Err (ReadListFull (handle_of t)) else Ok tt
+-- the same range, for the read list of t, asked for under the handle h
+abbrev pub join_check : ℕ → Transaction → ℕ → ℕ → Result (Unit {0}) Fault
+join_check h t k n = if joins t n && read_list_full t.reads k n then Err (ReadListFull h) else Ok tt
 
 -- a read by t: both, in this order
-abbrev pub read_check : ℕ → ℕ → Transaction → ℕ → ℕ → Result (Unit {0}) Fault
-read_check keys room t k n = result_and (range_check keys room k n) (join_check t k n)
+abbrev pub read_check : ℕ → ℕ → ℕ → Transaction → ℕ → ℕ → Result (Unit {0}) Fault
+read_check keys room h t k n = result_and (range_check keys room k n) (join_check h t k n)
 
 -- a write by t to the key k
-abbrev pub write_check : ℕ → Transaction → ℕ → Result (Unit {0}) Fault
-write_check keys t k =
-    if is_reader t.kind then Err (ReaderWrites (handle_of t))
+abbrev pub write_check : ℕ → ℕ → Transaction → ℕ → Result (Unit {0}) Fault
+write_check keys h t k =
+    if is_reader t.kind then Err (ReaderWrites h)
     else if not (in_table keys k 1) then Err (KeyOutside k)
-    else if write_list_full t.writes k then Err (WriteListFull (handle_of t))
+    else if write_list_full t.writes k then Err (WriteListFull h)
     else Ok tt
 
 -- a call by the transaction t; it may always commit or abort, and for a total there is room
 abbrev pub transaction_check : ℕ → ℕ → Transaction → Call → Result (Unit {0}) Fault
-transaction_check keys room t (Call.Read h k n) = read_check keys room t k n
-transaction_check keys room t (Call.Total h k n s) = read_check keys n t k n
-transaction_check keys room t (Call.Write h k x) = write_check keys t k
+transaction_check keys room t (Call.Read h k n) = read_check keys room h t k n
+transaction_check keys room t (Call.Total h k n s) = read_check keys n h t k n
+transaction_check keys room t (Call.Write h k x) = write_check keys h t k
 transaction_check keys room t _ = Ok tt
 
 -- the transaction that makes a call under the handle h, if there is one and it may

@@ -11,7 +11,7 @@ use Rattle.ledger.specs.declared.Fault.{Fault}
 use Rattle.ledger.specs.declared.Fault.TheVariants.{KeyOutside, NoTransaction, ClockSpent, ReadListFull}
 use Rattle.ledger.specs.declared.Verdict.TheVariants.{Restart}
 use Rattle.ledger.specs.declared.Done.{Done}
-use Rattle.ledger.specs.Ledger.{Limits, Transaction, Version, Ledger, Shortage, start_of, handle_of, found, is_reader, dead, live_count, shortage, newest_value}
+use Rattle.ledger.specs.Ledger.{Limits, Transaction, Version, Ledger, Shortage, start_of, found, is_reader, dead, live_count, shortage, newest_value}
 use Rattle.ledger.specs.Figures.{figure_of}
 use Rattle.ledger.specs.Calls.{step, new_buffer, in_table, joins, read_list_full, seen, reclaimed, stale_read, out_of_ticks}
 use Rattle.ledger.specs.Reach.{IsReached}
@@ -149,7 +149,7 @@ abbrev pub total_answer : {X : Type 0} → (List ℕ → X) → Ledger → ℕ �
 total_answer figure l h k c None = Err (NoTransaction h)
 total_answer figure l h k c (Some t) =
     if not (in_table l.limits.keys k c) then Err (KeyOutside k)
-    else if joins t c && read_list_full t.reads k c then Err (ReadListFull (handle_of t))
+    else if joins t c && read_list_full t.reads k c then Err (ReadListFull h)
     else Ok (figure (map (seen l t) (range_with_len k c)))
 
 -- a total leaves the buffer as it was, and the ledger as a read of its range leaves it

@@ -107,19 +107,32 @@ impl Record {
         ensures refusal { OnErr result (self.new ≡ self.old) }
     {
         match (self.state, call) {
-            (State::Updater, Call::Write { key, value, .. }) => {
-                self.take_write(Write { key, value }, keys)?;
+            (State::Updater, Call::Write { handle, key, value }) => {
+                self.take_write(handle, Write { key, value }, keys)?;
             }
-            (_, Call::Write { .. }) => return Err(Fault::ReaderWrites {
-                handle: self.handle(),
-            }),
-            (State::Updater, Call::Read { first, count, .. }) => {
-                self.take_read(Range { first, count }, keys, room)?;
+            (_, Call::Write { handle, .. }) => return Err(Fault::ReaderWrites { handle }),
+            (
+                State::Updater,
+                Call::Read {
+                    handle,
+                    first,
+                    count,
+                },
+            ) => {
+                self.take_read(handle, Range { first, count }, keys, room)?;
             }
             (_, Call::Read { first, count, .. }) => readable(Range { first, count }, keys, room)?,
             // It is lent no buffer, and needs none.
-            (State::Updater, Call::Total { first, count, .. }) => {
-                self.take_read(Range { first, count }, keys, usize::from(count))?;
+            (
+                State::Updater,
+                Call::Total {
+                    handle,
+                    first,
+                    count,
+                    ..
+                },
+            ) => {
+                self.take_read(handle, Range { first, count }, keys, usize::from(count))?;
             }
             (_, Call::Total { first, count, .. }) => {
                 readable(Range { first, count }, keys, usize::from(count))?;
@@ -130,10 +143,10 @@ impl Record {
         Ok(Next::Answer)
     }
 
-    /// An updater's write.
-    fn take_write(&mut self, write: Write, keys: u16) -> Result<(), Fault>
+    /// An updater's write, under this handle.
+    fn take_write(&mut self, handle: u32, write: Write, keys: u16) -> Result<(), Fault>
         requires { self.old.state ≡ State.Updater }
-        ensures answer { result ≡ write_check keys (view self.old) write.key }
+        ensures answer { result ≡ write_check keys handle (view self.old) write.key }
         ensures state { self.new.state ≡ self.old.state }
         ensures after { view self.new ≡
             (if is_ok result then wrote (view self.old) write.key write.value else view self.old) }
@@ -142,16 +155,15 @@ impl Record {
         if write.key >= keys {
             return Err(Fault::KeyOutside { key: write.key });
         }
-        let handle = self.handle();
         self.writes
             .put(write)
             .map_err(|_| Fault::WriteListFull { handle })
     }
 
-    /// An updater's read of a range, into a buffer of this length.
-    fn take_read(&mut self, range: Range, keys: u16, room: usize) -> Result<(), Fault>
+    /// An updater's read of a range under this handle, into a buffer of this length.
+    fn take_read(&mut self, handle: u32, range: Range, keys: u16, room: usize) -> Result<(), Fault>
         requires { self.old.state ≡ State.Updater }
-        ensures answer { result ≡ read_check keys room (view self.old) range.first range.count }
+        ensures answer { result ≡ read_check keys room handle (view self.old) range.first range.count }
         ensures state { self.new.state ≡ self.old.state }
         ensures after { view self.new ≡
             (if is_ok result then joined (view self.old) range.first range.count else view self.old) }
@@ -162,7 +174,6 @@ impl Record {
         if range.count == 0 {
             return Ok(());
         }
-        let handle = self.handle();
         self.reads
             .join(range)
             .map_err(|_| Fault::ReadListFull { handle })
