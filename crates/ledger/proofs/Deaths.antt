@@ -134,3 +134,31 @@ present_swept o all (v ∷ vs) = go v.present (unseen o all v) (present_swept o 
     go true true ih = omega arith
     go true false ih = omega arith
     go false s ih = ih
+
+-- after a reclaim nothing dead is present
+none_dead : (o : Outlook) (all : List Version) (d : Version → Bool) → ((v : Version) → d v ≡ unseen o all v) → (us : List Version) → filter (λ v. v.present && d v) (map (clear o all) us) ≡ []
+none_dead o all d e [] = refl
+none_dead o all d e (v ∷ us) =
+    let one : ((v.present && not (unseen o all v)) && d (clear o all v)) ≡ false = ap (λ s. (v.present && not (unseen o all v)) && s) (e (clear o all v)) ∙ both v.present (unseen o all v) in
+    rw (one, none_dead o all d e us)
+  where
+    both : (p s : Bool) → ((p && not s) && s) ≡ false
+    both true true = refl
+    both true false = refl
+    both false s = refl
+
+pub dead_count_reclaimed : (l : Ledger) → dead_count (reclaimed l) ≡ 0
+dead_count_reclaimed l = ap length (none_dead (outlook l) l.versions (dead (reclaimed l)) (dead_reclaimed l) l.versions)
+
+-- what is present is left by a reclaim, or dead
+count_left : (o : Outlook) (all us : List Version) → length (filter (λ v. v.present) us) ≡ length (filter (λ v. v.present) (map (clear o all) us)) + length (filter (λ v. v.present && unseen o all v) us)
+count_left o all [] = omega arith
+count_left o all (v ∷ us) = go v.present (unseen o all v) (count_left o all us)
+  where
+    go : (p s : Bool) → length (filter (λ u. u.present) us) ≡ length (filter (λ u. u.present) (map (clear o all) us)) + length (filter (λ u. u.present && unseen o all u) us) → length (cond p (v ∷ filter (λ u. u.present) us) (filter (λ u. u.present) us)) ≡ length (cond (p && not s) (clear o all v ∷ filter (λ u. u.present) (map (clear o all) us)) (filter (λ u. u.present) (map (clear o all) us))) + length (cond (p && s) (v ∷ filter (λ u. u.present && unseen o all u) us) (filter (λ u. u.present && unseen o all u) us))
+    go true true ih = omega arith
+    go true false ih = omega arith
+    go false s ih = ih
+
+pub left_present : (l : Ledger) → present_count l ≡ present_count (reclaimed l) + dead_count l
+left_present l = count_left (outlook l) l.versions l.versions

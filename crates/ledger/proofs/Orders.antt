@@ -1,14 +1,16 @@
 -- Every ledger that calls lead to is orderly, and what follows.
-use Rattle.std.proofs.Common.{◌≡◌, ℕ, ◌<◌, ◌≤◌, List, [], ◌∷◌, ◌++◌, Ok, Err, Result, sym, refl, ap, ◌∙◌, subst, arith}
+use Rattle.std.proofs.Common.{◌≡◌, ℕ, ◌<◌, ◌≤◌, ◌⊎◌, false, ltb, List, [], ◌∷◌, ◌++◌, Some, Ok, Err, Result, ⊎_elim, sym, refl, ap, ◌∙◌, subst, arith}
+use Rattle.std.proofs.lemmas.Bool.{le-ltb}
 use Rattle.std.specs.List.{AllByRecursion}
 use Rattle.ledger.specs.declared.Fault.{Fault}
 use Rattle.ledger.specs.declared.Call.{Call}
-use Rattle.ledger.specs.Ledger.{Limits, Transaction, Version, Ledger}
+use Rattle.ledger.specs.Ledger.{Limits, Transaction, Version, Ledger, found, is_reader}
 use Rattle.ledger.specs.Calls.{Outcome, Effect, step, outcome, effect_of, reclaimed}
 use Rattle.ledger.specs.Reach.{IsReached, new, next}
 use Rattle.ledger.specs.History.{Made, Deed, deed, deed_of, after, IsTold}
 use Rattle.ledger.specs.Orderly.{IsWellFormed, IsSound, IsDated, IsOrderly}
 use Rattle.ledger.specs.Laws.{OrderLaw, DeathLaw, RefusalLaw, IdleLaw, idle_answer}
+use Rattle.ledger.proofs.Actives.{all_found}
 use Rattle.ledger.proofs.SoundActives.{sound_reclaimed, sound_made}
 use Rattle.ledger.proofs.DatedVersions.{dated_reclaimed, dated_made}
 use Rattle.ledger.proofs.SafeReclaims.{safe_reclaimed, safe_made}
@@ -103,3 +105,13 @@ refusal l b (Err g) f q = (refl, refl)
 
 pub refusals : RefusalLaw
 refusals l c b f e = refusal l b (effect_of l c b) f e
+
+-- Trims
+
+-- A trim hides no stale read: a stamp that was kept, or set to 0 below the tick trimmed at, is above a start as it was
+pub trim_hides_nothing : {l : Ledger} → IsReached l → (h : ℕ) (t : Transaction) → found l.active h ≡ Some t → is_reader t.kind ≡ false → (stamp kept : ℕ) → (kept ≡ stamp) ⊎ ((kept ≡ 0) × (stamp < l.trimmed_at)) → (ltb t.start kept ≡ ltb t.start stamp) × (t.start < stamp → kept ≡ stamp)
+trim_hides_nothing {l = l} r h t f upd stamp kept why =
+    let le = (all_found (λ u. is_reader u.kind ≡ false → l.trimmed_at ≤ u.start) l.active h t (order r).safe.trims f).0 upd in
+    ⊎_elim (λ same. (ap (ltb t.start) same, λ lt. same))
+    (λ gone. (le-ltb t.start kept (omega (arith, gone.0)) ∙ sym (le-ltb t.start stamp (omega (arith, gone.1))), λ lt. omega (arith, gone.1)))
+    why
