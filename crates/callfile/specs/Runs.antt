@@ -1,22 +1,29 @@
 -- What a run of a call file makes of an engine, a buffer, a reader and a writer.
-use Rattle.std.specs.Prelude.{◌≡◌, ℕ, List, ◌++◌, length, take, IfSome, Option, Result}
+use Rattle.std.specs.Prelude.{◌≡◌, ℕ, List, ◌++◌, length, take, IfOk, IfSome, Option, Result}
 use Rattle.std.specs.Io.{StartsWith}
 use Rattle.std.specs.Io.KnownBytes.{Appends, Consumes}
+use Rattle.refusals.specs.Results.{result_map_err}
 use Rattle.ledger.specs.declared.Call.{Call}
 use Rattle.ledger.specs.declared.Done.{Done}
+use Rattle.ledger.specs.declared.Fault.{Fault}
 use Rattle.ledger.specs.Ledger.{Ledger, Limits}
 use Rattle.ledger.specs.History.{Made, after}
 use Rattle.versions.specs.Stores.{Store}
 use Rattle.validation.specs.Stamps.{Stamps}
 use Rattle.engine.specs.declared.engine.Engine.{Engine}
 use Rattle.engine.specs.Parts.{FitsEngine}
-use Rattle.engine.specs.Steps.{LeadsTo, LeadsLawfullyTo, StaysIdle}
+use Rattle.engine.specs.Steps.{CountsAsAsked, LeadsTo, LeadsLawfullyTo, StaysIdle}
 use Rattle.answer_lines.specs.declared.LineFault.{LineFault}
+use Rattle.answer_lines.specs.declared.LineFault.TheVariants.{Engine as EngineFault}
 use Rattle.callfile.specs.Files.{records_of, record_answer, answer_from}
 
 -- record n has this result, whatever ledger fits the engine before
 abbrev pub HasResult : {S V : Type 0} → (List ℕ → Option Call) → (S → Store) → (V → Stamps) → Engine S V → ℕ → List ℕ → List ℕ → Result Done LineFault → Type 0
 HasResult d m p e n bytes b r = (l : Ledger) → FitsEngine m p l e → r ≡ (record_answer n l b (d bytes)).result
+
+-- the result is one of an engine's, its refusal carried up whole, so never that of a malformed record; and it tells as many values as the call asks for
+abbrev pub CarriesAnswer : Call → Result Done LineFault → Type 0
+CarriesAnswer c r = (a : Result Done Fault) × IfOk a (CountsAsAsked c) × (r ≡ result_map_err EngineFault a)
 
 -- From e to e' the records rs were answered, from number n on; b was in the buffer before, b' after. d says the call that a record asks for; m and p are the meanings of the store and of the validator.
 pub record Answers {S V : Type 0} (d : List ℕ → Option Call) (m : S → Store) (p : V → Stamps) (e e' : Engine S V) (n : ℕ) (rs : List (List ℕ)) (b b' : List ℕ) : Type 0 where

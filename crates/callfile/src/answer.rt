@@ -1,6 +1,6 @@
-ghost use Rattle.std.specs.Prelude.{◌≡◌, [], ◌∷◌, None, Err, OnErr};
+ghost use Rattle.std.specs.Prelude.{◌≡◌, [], ◌∷◌, None, Err, OnErr, IfSome};
 ghost use Rattle.answer_lines.specs.declared.LineFault.TheVariants.{Malformed};
-ghost use Rattle.callfile.specs.Runs.{HasResult, Answers};
+ghost use Rattle.callfile.specs.Runs.{HasResult, CarriesAnswer, Answers};
 
 use answer_lines::LineFault;
 use engine::engine::Engine;
@@ -18,6 +18,7 @@ pub fn answer<F: Format, S: VersionStore, V: Validator>(
     buffer: &mut [u64],
 ) -> Result<Done, LineFault>
     ensures malformed { F.decoded bytes.now ≡ None → result ≡ Err (Malformed number) }
+    ensures carried { IfSome (F.decoded bytes.now) (λ call. CarriesAnswer call result) }
     ensures result { HasResult F.decoded S.meaning V.meaning engine.old number
         bytes.now buffer.old result }
     ensures refusal { OnErr result ((engine.new ≡ engine.old) × (buffer.new ≡ buffer.old)) }

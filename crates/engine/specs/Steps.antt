@@ -1,5 +1,5 @@
 -- The contracts of the calls.
-use Rattle.std.specs.Prelude.{◌≡◌, ℕ, List, ◌∷◌, Result}
+use Rattle.std.specs.Prelude.{◌≡◌, ℕ, List, ◌∷◌, ⊤, Result}
 use Rattle.ledger.specs.declared.Call.{Call}
 use Rattle.ledger.specs.declared.Fault.{Fault}
 use Rattle.ledger.specs.declared.Done.{Done}
@@ -34,6 +34,16 @@ RefinesUnlent m p e e' c a = (b : List ℕ) → Refines m p e e' c b a b
 -- an engine from a refused set-up touches neither store nor validator, and stays one
 abbrev pub StaysIdle : {S V : Type 0} → Engine S V → Engine S V → Type 0
 StaysIdle e e' = e.table.last ≡ 0 → (e'.store ≡ e.store) × (e'.validator ≡ e.validator) × (e'.table.last ≡ 0)
+
+-- how many values a call leaves at the front of the buffer
+abbrev pub values_of : Call → ℕ
+values_of (Call.Read h k n) = n
+values_of _ = 0
+
+-- where values are told to be at the front of the buffer, they are as many as the call leaves there
+abbrev pub CountsAsAsked : Call → Done → Type 0
+CountsAsAsked c (Done.Read n) = n ≡ values_of c
+CountsAsAsked c _ = ⊤
 
 -- the history led to the engine
 abbrev pub LeadsTo : {S V : Type 0} → (S → Store) → (V → Stamps) → Limits → List Made → Engine S V → Type 0

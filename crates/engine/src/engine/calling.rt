@@ -1,9 +1,9 @@
 // Any of the calls, as a value.
-ghost use Rattle.std.specs.Prelude.{◌≡◌, OnErr};
+ghost use Rattle.std.specs.Prelude.{◌≡◌, IfOk, OnErr};
 ghost use Rattle.refusals.specs.Results.{result_map};
 ghost use Rattle.ledger.specs.declared.Call.TheVariants.{Total};
 ghost use Rattle.ledger.specs.declared.Done.TheVariants.{Total as TotalDone};
-ghost use Rattle.engine.specs.Steps.{Refines, RefinesUnlent, StaysIdle, GoesOn};
+ghost use Rattle.engine.specs.Steps.{Refines, RefinesUnlent, StaysIdle, CountsAsAsked, GoesOn};
 
 use super::Engine;
 use ledger::{Call, Done, Fault, Figure, SummaryKind};
@@ -16,6 +16,7 @@ impl<S: VersionStore, V: Validator> Engine<S, V> {
     pub fn call(&mut self, call: Call, buffer: &mut [u64]) -> Result<Done, Fault>
         ensures refines { Refines S.meaning V.meaning self.old self.new
             call buffer.old result buffer.new }
+        ensures counted { IfOk result (CountsAsAsked call) }
         ensures refusal { OnErr result ((self.new ≡ self.old) × (buffer.new ≡ buffer.old)) }
         ensures idle { StaysIdle self.old self.new }
         ensures history { GoesOn S.meaning V.meaning self.old self.new
@@ -28,6 +29,7 @@ impl<S: VersionStore, V: Validator> Engine<S, V> {
     fn dispatch(&mut self, call: Call, buffer: &mut [u64]) -> Result<Done, Fault>
         ensures refines { Refines S.meaning V.meaning self.old self.new
             call buffer.old result buffer.new }
+        ensures counted { IfOk result (CountsAsAsked call) }
         ensures refusal { OnErr result ((self.new ≡ self.old) × (buffer.new ≡ buffer.old)) }
         ensures idle { StaysIdle self.old self.new }
     {
