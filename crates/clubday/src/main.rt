@@ -63,8 +63,9 @@ fn answer_day<R: Read, W: Write + Drop>(
     run(alloc, &mut one, &mut other, input, output)
 }
 
-fn main(rt: HostRuntime) -> io::Result<()> {
+fn main(rt: HostRuntime) -> anyhow::Result<()> {
     let mut input = BufReader::new(rt.alloc(), rt.stdin())?;
     let mut output = BufWriter::new(rt.alloc(), rt.stdout())?;
-    answer_day(rt.alloc(), &mut input, &mut output)
+    answer_day(rt.alloc(), &mut input, &mut output)?;
+    Ok(())
 }
