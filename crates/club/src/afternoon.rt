@@ -8,6 +8,7 @@ ghost use Rattle.club.specs.Lines.{event_in, text_of};
 ghost use Rattle.club.specs.Afternoons.{AnswersLines, AnswersOnBoth, AnswersAfternoon};
 
 use crate::desk::Desk;
+use crate::line::parse;
 use crate::said::Spoken;
 use std::alloc::Global;
 use std::io;
@@ -132,8 +133,9 @@ fn answer_line<S: VersionStore, V: Validator, T: VersionStore, U: Validator, W: 
         one.old one.new other.old other.new number (event_in line.now)
         (W.contents output.old) (W.contents output.new)) }
 {
-    let said = Spoken(one.answer(number, line));
-    let says = Spoken(other.answer(number, line));
+    let event = parse(line);
+    let said = Spoken(one.answer_event(number, event));
+    let says = Spoken(other.answer_event(number, event));
     writeln!(output, "{number} {said}")?;
     if are_same(&said, &says) {
         return Ok(0);

@@ -44,7 +44,20 @@ impl<S: VersionStore, V: Validator> Desk<S, V> {
         ensures shows { IfSome (event_in line.now) (λ event.
             Shows S.meaning V.meaning (engine_of self.old) event result) }
     {
-        let event = parse(line).ok_or(LineFault::Malformed { number })?;
+        self.answer_event(number, parse(line))
+    }
+
+    /// The same, of the event that the line with this number tells of, if it tells of one.
+    pub fn answer_event(&mut self, number: u64, event: Option<Event>) -> Result<Said, LineFault>
+        ensures performs { Performs S.meaning V.meaning (engine_of self.old) (engine_of self.new)
+            (answered number (pending_of self.old) event) (result, pending_of self.new) }
+        ensures pending { IfSome event (λ event.
+            pending_of self.new ≡ pending_after event (pending_of self.old) (result_ok result)) }
+        ensures malformed { IfNone event (self.new ≡ self.old) }
+        ensures shows { IfSome event (λ event.
+            Shows S.meaning V.meaning (engine_of self.old) event result) }
+    {
+        let event = event.ok_or(LineFault::Malformed { number })?;
         Ok(self.act(event)?)
     }
 
