@@ -36,7 +36,9 @@ impl<S: VersionStore, V: Validator> Engine<S, V> {
     /// Whether an engine can be made of these.
     // The three travel together only as far as `make`, and the struct of them is what it makes.
     pub fn check(last: u32, store: &S, validator: &V) -> Result<(), SetUpFault>
-        ensures { result ≡ engine_check last (S.meaning store.now) (V.meaning validator.now) }
+        ensures answer { result ≡ engine_check last (S.meaning store.now) (V.meaning validator.now) }
+        // The definitions cite it by its name.
+        ensures limit { LAST_TICK ≡ 4294967294 }
     {
         if last == 0 || last > LAST_TICK {
             return Err(SetUpFault::LastTick { tick: last });
