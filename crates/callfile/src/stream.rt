@@ -25,8 +25,8 @@ const HELD: usize = 8192;
 /// The longest line: a number of 20 digits, " read", a space and 20 digits for each key, and a line feed.
 const LONGEST: usize = 20 + 5 + 21 * MAX_KEYS as usize + 1;
 
-/// Room for the longest line behind the lines that are held, so that the text never grows.
-const ROOM: usize = HELD + LONGEST;
+/// The longest line fits behind the lines that are held, so the text never grows.
+const CAPACITY: usize = HELD + LONGEST;
 
 /// Answers each record of an input on the engine, until the input ends. Every read is lent the buffer.
 /// A text for the lines that are held is allocated, once and before anything is read:
@@ -94,14 +94,14 @@ fn answer_all<F: Format, S: VersionStore, V: Validator, R: Read, W: Write + Drop
     write_lines(&mut text, output)
 }
 
-/// An empty text, with room for the longest line behind the lines that are held.
+/// An empty text, with capacity for the longest line behind the lines that are held.
 // Out of line, since it comes once in a run.
 #[inline(never)]
 fn new_text(alloc: Global) -> io::Result<String>
     ensures empty { IfOk result (λ text. string_bytes text ≡ []) }
-    ensures room { IfOk result (λ text. ROOM ≤ string_capacity text) }
+    ensures capacity { IfOk result (λ text. CAPACITY ≤ string_capacity text) }
 {
-    Ok(String::with_capacity(alloc, ROOM)?)
+    Ok(String::with_capacity(alloc, CAPACITY)?)
 }
 
 /// Who waits for an answer before the next record must have it before that is waited for.

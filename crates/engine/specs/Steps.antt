@@ -36,13 +36,13 @@ abbrev pub StaysIdle : {S V : Type 0} → Engine S V → Engine S V → Type 0
 StaysIdle e e' = e.table.last ≡ 0 → (e'.store ≡ e.store) × (e'.validator ≡ e.validator) × (e'.table.last ≡ 0)
 
 -- how many values a call leaves at the front of the buffer
-abbrev pub values_of : Call → ℕ
-values_of (Call.Read h k n) = n
-values_of _ = 0
+abbrev pub value_count : Call → ℕ
+value_count (Call.Read h k n) = n
+value_count _ = 0
 
 -- where values are told to be at the front of the buffer, they are as many as the call leaves there
 abbrev pub CountsAsAsked : Call → Done → Type 0
-CountsAsAsked c (Done.Read n) = n ≡ values_of c
+CountsAsAsked c (Done.Read n) = n ≡ value_count c
 CountsAsAsked c _ = ⊤
 
 -- the history led to the engine
